@@ -1,0 +1,2 @@
+-- The definitions that contracts on refusals cite.
+pub mod Refusals

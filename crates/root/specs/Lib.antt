@@ -1,0 +1,2 @@
+-- The definitions that contracts on the square root cite.
+pub mod Root
