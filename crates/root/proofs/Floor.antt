@@ -39,6 +39,9 @@ below-root a s n h l =
 pub floor-unique : (n s t : ℕ) → Floor n s → Floor n t → s ≡ t
 floor-unique n s t f g = le-antisymm (below-root s t n (f .0) (g .1)) (below-root t s n (g .0) (f .1))
 
+pub floor-above : (n s rem : ℕ) → n ≡ s * s + rem → rem ≤ 2 * s → Floor n s
+floor-above n s rem h l = omega (arith, square-next s)
+
 -- ---- `floorRoot` is the whole part of the root
 
 digit : (n f : ℕ) (b : Bool) → (T b → (2 * f + 1) * (2 * f + 1) ≤ n) → (T (not b) → n < (2 * f + 1) * (2 * f + 1)) → Floor (n / 4) f → Floor n (cond b (2 * f + 1) (2 * f))

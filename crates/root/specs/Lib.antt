@@ -1,2 +1,3 @@
 -- The definitions that contracts on the square root cite.
 pub mod Root
+pub mod Remainder

@@ -1,10 +1,13 @@
-// The square root of a double, correctly rounded, by whole numbers.
+// The square root of a double, correctly rounded: a guess by floats that whole numbers certify, with
+// the root's digits one by one where they don't. A positive double is counted in units of 2^-1074.
 ghost use mathlib.Core.Path.{_≡_};
-ghost use Prim.Native.Nat.{_*_, _^_, _<_, _≤_};
-ghost use Rattle.root.specs.Root.{floorRoot, rootBits, rootOf};
+ghost use Prim.Native.Nat.{_+_, _*_, _^_, _<_, _≤_};
 ghost use Rattle.floats.specs.Units.{unitsAt};
+ghost use Rattle.root.specs.Root.{floorRoot, rootBits, rootOf};
+ghost use Rattle.root.specs.Remainder.{Remains};
 
-const HID: u64 = 4503599627370496;
+// 2^52, the weight of a significand's leading digit.
+const LEADING: u64 = 4503599627370496;
 
 // The whole part of √(m · 2^54), a digit at a time. `rest` is what has not been brought down yet.
 fn floor_root(m: u64) -> u64
@@ -16,8 +19,8 @@ fn floor_root(m: u64) -> u64
     let mut rem: u64 = 0;
     let mut i: u64 = 0;
     while i < 54 {
-        rem = rem * 4 + rest / HID;
-        rest = rest % HID * 4;
+        rem = rem * 4 + rest / LEADING;
+        rest = rest % LEADING * 4;
         s = s * 2;
         if s * 2 < rem {
             rem = rem - s * 2 - 1;
@@ -28,7 +31,7 @@ fn floor_root(m: u64) -> u64
     s
 }
 
-// A first guess at √(m · 2^54), by floats. Nothing is promised of it.
+// A guess at √(m · 2^54), by four Newton steps. Nothing is promised of it: `above_square` certifies it.
 fn guess(m: u64) -> u64
     requires { ⌜ 2 ^ 52 ≤ m ⌝ }
     requires { ⌜ m < 2 ^ 54 ⌝ }
@@ -54,39 +57,44 @@ fn guess(m: u64) -> u64
     0
 }
 
-// The whole part of √(m · 2^54), from any start: if the start's square is not far below, by single steps, and else digit by digit.
-fn settled(m: u64, start: u64) -> u64
-    requires { ⌜ m < 2 ^ 54 ⌝ }
-    ensures { λ r. ⌜ r ≡ floorRoot 54 (m * 2 ^ 54) ⌝ }
+// What a number has above a square, or that it was not found: it is negative, or too large for 64 bits.
+enum Remainder {
+    Found(u64),
+    NotFound,
+}
+
+// What m · 2^54 has above s · s. The square is taken off in three parts, each scaled by 2^27.
+fn above_square(m: u64, s: u64) -> Remainder
+    ensures { λ r. ⌜ Remains m s r ⌝ }
 {
-    if start >= 18014398509481984 {
-        return floor_root(m);
+    if s >= 18014398509481984 {
+        return Remainder::NotFound;
     }
-    let hi = start / 134217728;
-    let lo = start % 134217728;
+    let hi = s / 134217728;
+    let lo = s % 134217728;
     let hh = hi * hi;
-    if m < hh {
-        return floor_root(m);
+    if m < hh || m - hh >= 68719476736 {
+        return Remainder::NotFound;
     }
-    let d = m - hh;
-    if d >= 68719476736 {
-        return floor_root(m);
+    let d = (m - hh) * 134217728;
+    let hl = hi * lo * 2;
+    if d < hl || d - hl >= 68719476736 {
+        return Remainder::NotFound;
     }
-    let e = d * 134217728;
-    let f = hi * lo * 2;
-    if e < f {
-        return floor_root(m);
-    }
-    let a = e - f;
-    if a >= 68719476736 {
-        return floor_root(m);
-    }
-    let g = a * 134217728;
+    let e = (d - hl) * 134217728;
     let ll = lo * lo;
-    if g < ll {
-        return floor_root(m);
+    if e < ll {
+        return Remainder::NotFound;
     }
-    let mut rem = g - ll;
+    Remainder::Found(e - ll)
+}
+
+// The whole part of √(start · start + above), by single steps up from start.
+fn step_up(start: u64, above: u64) -> u64
+    requires { ⌜ start * start + above < 4 ^ 54 ⌝ }
+    ensures { λ r. ⌜ r ≡ floorRoot 54 (start * start + above) ⌝ }
+{
+    let mut rem = above;
     let mut s = start;
     while s * 2 < rem {
         rem = rem - s * 2 - 1;
@@ -95,6 +103,7 @@ fn settled(m: u64, start: u64) -> u64
     s
 }
 
+// The whole part of √(m · 2^54), by the guess where it is certified. It may be too large by a few.
 fn near_root(m: u64) -> u64
     requires { ⌜ 2 ^ 52 ≤ m ⌝ }
     requires { ⌜ m < 2 ^ 54 ⌝ }
@@ -104,7 +113,10 @@ fn near_root(m: u64) -> u64
     if s < 8 {
         return floor_root(m);
     }
-    settled(m, s - 8)
+    match above_square(m, s - 8) {
+        Remainder::Found(above) => step_up(s - 8, above),
+        Remainder::NotFound => floor_root(m),
+    }
 }
 
 // The pattern of the root of sig · 2^exp · 2^-1126, with the leading digit of sig at 2^52.
@@ -117,7 +129,7 @@ fn packed(sig: u64, exp: u64) -> u64
 {
     let m = if exp % 2 == 0 { sig } else { sig * 2 };
     let s = near_root(m);
-    (exp / 2 + 485) * HID + (s + 1) / 2
+    (exp / 2 + 485) * LEADING + (s + 1) / 2
 }
 
 // The pattern of the root of the positive finite double with the pattern b.
@@ -127,13 +139,13 @@ fn root_bits(b: u64) -> u64
     ensures value { λ r. ⌜ r ≡ rootBits (unitsAt b * 2 ^ 1074) ⌝ }
     ensures range { λ r. ⌜ r < 2047 * 2 ^ 52 ⌝ }
 {
-    let e = b / HID;
-    let t = b % HID;
+    let e = b / LEADING;
+    let t = b % LEADING;
     if e == 0 {
         let c = u64::leading_zeros(t) - 11;
         return packed(t << c, 52 - c as u64);
     }
-    packed(t + HID, e + 51)
+    packed(t + LEADING, e + 51)
 }
 
 // The square root of x.
@@ -144,7 +156,7 @@ pub fn root(x: f64) -> f64
         if x < 1.0 / 0.0 {
             return f64::from_bits(root_bits(f64::to_bits(x)));
         }
-        return x;
+        return 1.0 / 0.0;
     }
     if x == 0.0 {
         return x;

@@ -7,7 +7,7 @@ use native.Mathlib.Omega.{arith}
 use mathlib.Core.Logic.{⊎-elim}
 use lib.Pow.{pow-pos, pow-mono, pow-add}
 use Rattle.root.specs.Root.{floorRoot}
-use Rattle.root.proofs.Floor.{Floor, square-next, floorRoot-is}
+use Rattle.root.proofs.Floor.{square-next, floor-above, floorRoot-is}
 use Rattle.root.proofs.floor_root.Statement.{statement}
 use Rattle.root.proofs.floor_root.Tie as tie
 
@@ -46,15 +46,12 @@ passed m rest s rem i d l t =
 brought : (n q rest : ℕ) → n * 2 ^ 54 ≡ q * 2 ^ 54 + rest → rest < 2 ^ 54 → n ≡ q
 brought n q rest h l = omega arith
 
-split : (n s rem : ℕ) → n ≡ s * s + rem → rem ≤ 2 * s → Floor n s
-split n s rem h l = omega (arith, square-next s)
-
 -- at the end the digits are all of m * 2 ^ 54
 whole : (m rest s rem i : ℕ) → m < 2 ^ 54 → Digits m rest s rem i → 54 ≤ i → s ≡ floorRoot 54 (m * 2 ^ 54)
 whole m rest s rem i b d l =
     let e : i ≡ 54 = omega arith in
     let h : m * 2 ^ 54 * 2 ^ 54 ≡ (s * s + rem) * 2 ^ 54 + rest = mul-assoc m (2 ^ 54) (2 ^ 54) ∙ sym (ap (λ (x : ℕ). m * 4 ^ x) e) ∙ d .5 in
-    sym (floorRoot-is 54 (m * 2 ^ 54) s (mul-lt-mul-of-pos-right b (pow-pos 54)) (split (m * 2 ^ 54) s rem (brought (m * 2 ^ 54) (s * s + rem) rest h (d .1)) (d .2)))
+    sym (floorRoot-is 54 (m * 2 ^ 54) s (mul-lt-mul-of-pos-right b (pow-pos 54)) (floor-above (m * 2 ^ 54) s rem (brought (m * 2 ^ 54) (s * s + rem) rest h (d .1)) (d .2)))
 
 loop-holds : tie.Need-loop-holds Inv-loop μ-loop
 loop-holds c = omega arith

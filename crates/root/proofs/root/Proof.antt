@@ -55,7 +55,7 @@ above (fin false zero e) p q = absurd (lt-irrefl 0 (lt-of-lt-of-le {n = 0} (unde
     le e = omega (arith, none e)
 above (fin false (suc m) e) p q = kind m e
 
-infinite : (x : Float) → lt zero! x ≡ true → lt x (inf false) ≡ false → x ≡ rootOf x
+infinite : (x : Float) → lt zero! x ≡ true → lt x (inf false) ≡ false → inf false ≡ rootOf x
 unfolding lt rootOf
 infinite nan p q = no' p
 infinite (inf true) p q = no' p

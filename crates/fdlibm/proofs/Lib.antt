@@ -1,0 +1,2 @@
+-- Theorems on fdlibm's functions.
+pub mod Values
