@@ -495,6 +495,17 @@ static const uint64_t kinds[] = {
     0x7ff8000000000000, 0x7ff8000000000001, 0x7ffdeadbeefcafe0, 0x7fffffffffffffff,
 };
 
+/* Inputs on which the C answers otherwise once one of its boundaries is moved by one or one of its constants by an ulp. */
+static const uint64_t witnesses[] = {
+    0x00000000000007b6, 0x0000000000000f52, 0x000fffff00000001, 0x3e200000702303cb,
+    0x3e30000007ed74d1, 0x3fd6a098ab191959, 0x3fd6a09dfb1c7432, 0x3fd961cb3601b00d,
+    0x3fda2f8985990dbc, 0x3fdf998f7d8c2aa3, 0x3fdffffff367d023, 0x3fe0000000016545,
+    0x3fe57d6622e81299, 0x3feffffa2907d341, 0x3ff0000101135e88, 0x3ff0d64c88c638e3,
+    0x3ff3cc8907c61a81, 0x3ff4b9e6985646fe, 0x400000000000002d, 0x40000000000000c9,
+    0x4000000102f77ae5, 0x400000010c58777f, 0x4005eb95f593f28b, 0x40060408e2d8b152,
+    0x40076c9a3c774c87, 0x433fffff3865af08, 0x4340000015765f5b, 0xbfe0000000001645,
+};
+
 /* 0.5, 1 and 2. */
 static const uint64_t centres[] = {0x3fe0000000000000, 0x3ff0000000000000, 0x4000000000000000};
 
@@ -504,11 +515,13 @@ static void add_both_signs(struct inputs *list, uint64_t bits)
     add(list, bits ^ SIGN);
 }
 
-/* All kinds, the neighbours of the centres, and whole numbers. */
+/* All kinds, the witnesses, the neighbours of the centres, and whole numbers. */
 static void add_kinds(struct inputs *list, const struct plan *plan)
 {
     for (size_t i = 0; i < COUNT(kinds); i++)
         add_both_signs(list, kinds[i]);
+    for (size_t i = 0; i < COUNT(witnesses); i++)
+        add_both_signs(list, witnesses[i]);
     for (size_t i = 0; i < COUNT(centres); i++) {
         add_around(list, centres[i], plan->ulps);
         add_around(list, centres[i] ^ SIGN, plan->ulps);
