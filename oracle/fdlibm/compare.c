@@ -23,6 +23,7 @@ double fdlibm_acos(double), fdlibm_acosh(double), fdlibm_asinh(double);
 
 /* ---- Bit patterns ---- */
 
+/* The bit pattern of x. */
 static uint64_t bits_of(double x)
 {
     uint64_t bits;
@@ -30,6 +31,7 @@ static uint64_t bits_of(double x)
     return bits;
 }
 
+/* The double of a bit pattern. */
 static double of_bits(uint64_t bits)
 {
     double x;
@@ -37,6 +39,7 @@ static double of_bits(uint64_t bits)
     return x;
 }
 
+/* Whether a bit pattern is a NaN, of either sign. */
 static bool is_nan(uint64_t bits)
 {
     return (bits & ~SIGN) > INFINITE;
@@ -111,6 +114,7 @@ static uint64_t next(struct inputs *list)
     return z ^ z >> 31;
 }
 
+/* Adds an input to the list. */
 static void add(struct inputs *list, uint64_t bits)
 {
     if (list->count == list->capacity) {
@@ -124,6 +128,7 @@ static void add(struct inputs *list, uint64_t bits)
     list->bits[list->count++] = bits;
 }
 
+/* The order of patterns as whole numbers, for qsort. */
 static int order(const void *a, const void *b)
 {
     uint64_t x = *(const uint64_t *)a, y = *(const uint64_t *)b;
@@ -213,6 +218,7 @@ static void log_boundaries(struct inputs *list, const struct plan *plan)
     }
 }
 
+/* The x with log1p(x) = log(u). */
 static double minus_one(double u)
 {
     return u - 1.0;
@@ -257,12 +263,13 @@ static void acosh_boundaries(struct inputs *list, const struct plan *plan)
     add_log_images(list, plan, cosh_of_log);
 }
 
-/* The x with asinh(x) = log(u), and its negative. */
+/* The x with asinh(x) = log(u). */
 static double sinh_of_log(double u)
 {
     return (u - 1.0 / u) / 2.0;
 }
 
+/* The x with asinh(x) = -log(u). */
 static double minus_sinh_of_log(double u)
 {
     return -sinh_of_log(u);
@@ -290,6 +297,7 @@ static double unit(struct inputs *list)
     return (double)(next(list) >> 11) * 0x1p-53;
 }
 
+/* A double from low to high, evenly spread. */
 static double between(struct inputs *list, double low, double high)
 {
     return low + (high - low) * unit(list);
@@ -302,6 +310,7 @@ static double spread(struct inputs *list, uint64_t low, uint64_t high)
     return of_bits(exponent << 52 | next(list) >> 12);
 }
 
+/* x or -x. */
 static double either_sign(struct inputs *list, double x)
 {
     return next(list) % 2 ? -x : x;
@@ -343,6 +352,7 @@ static double product(struct inputs *list)
     return r * spread(list, 0x201, 0x5fd);
 }
 
+/* Subnormal numbers, any positive numbers, products, and roots that are hard to round. */
 static double root_domain(struct inputs *list)
 {
     switch (next(list) % 5) {
@@ -359,6 +369,7 @@ static double root_domain(struct inputs *list)
     }
 }
 
+/* Subnormal numbers, any positive numbers, numbers around 1 and close to 1. */
 static double log_domain(struct inputs *list)
 {
     switch (next(list) % 4) {
@@ -373,6 +384,7 @@ static double log_domain(struct inputs *list)
     }
 }
 
+/* Numbers above -1: close to it, around 0, close to 0, from 0.25 to 2**66, any positive ones. */
 static double log1p_domain(struct inputs *list)
 {
     switch (next(list) % 5) {
@@ -389,6 +401,7 @@ static double log1p_domain(struct inputs *list)
     }
 }
 
+/* Numbers from -1 to 1: evenly spread, close to the ends, close to 0, close to 0.5 and -0.5. */
 static double acos_domain(struct inputs *list)
 {
     switch (next(list) % 4) {
@@ -403,6 +416,7 @@ static double acos_domain(struct inputs *list)
     }
 }
 
+/* Numbers from 1 to 2**996: any, up to 4, close to 1, up to 2**31. */
 static double acosh_domain(struct inputs *list)
 {
     switch (next(list) % 4) {
@@ -417,6 +431,7 @@ static double acosh_domain(struct inputs *list)
     }
 }
 
+/* Numbers of both signs: any, from 2**-31 to 2**31, from -4 to 4. */
 static double asinh_domain(struct inputs *list)
 {
     switch (next(list) % 3) {
@@ -429,7 +444,7 @@ static double asinh_domain(struct inputs *list)
     }
 }
 
-/* For abs, signum and clamp_unit. */
+/* For abs, signum and clamp_unit: any numbers, from -2 to 2, close to 1 and -1. */
 static double line_domain(struct inputs *list)
 {
     switch (next(list) % 3) {
@@ -509,6 +524,7 @@ static const uint64_t witnesses[] = {
 /* 0.5, 1 and 2. */
 static const uint64_t centres[] = {0x3fe0000000000000, 0x3ff0000000000000, 0x4000000000000000};
 
+/* Adds a pattern and its negative. */
 static void add_both_signs(struct inputs *list, uint64_t bits)
 {
     add(list, bits);
@@ -573,6 +589,7 @@ static size_t compare(const struct function *f)
     return differences;
 }
 
+/* Compares every function; the exit status is 1 on any difference. */
 static int compare_all(void)
 {
     size_t differences = 0;
@@ -648,6 +665,7 @@ static int freeze(const char *inputs_path, const char *answers_path)
     return failed ? 2 : 0;
 }
 
+/* Chooses the mode. */
 int main(int argc, char **argv)
 {
     if (argc == 1)

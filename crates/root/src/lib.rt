@@ -110,11 +110,11 @@ fn near_root(m: u64) -> u64
     ensures { λ r. ⌜ r ≡ floorRoot 54 (m * 2 ^ 54) ⌝ }
 {
     let s = guess(m);
-    if s < 8 {
+    if s < 4 {
         return floor_root(m);
     }
-    match above_square(m, s - 8) {
-        Remainder::Found(above) => step_up(s - 8, above),
+    match above_square(m, s - 4) {
+        Remainder::Found(above) => step_up(s - 4, above),
         Remainder::NotFound => floor_root(m),
     }
 }

@@ -12,9 +12,9 @@ use Rattle.root.proofs.near_root.Tie as tie
 
 -- a remainder that was found
 held : (c : tie.After-known-told)
-    → (c .before .before .before .before .before .guess .result - 8) * (c .before .before .before .before .before .guess .result - 8) + c .before .above .given .0 .0
+    → (c .before .before .before .before .before .guess .result - 4) * (c .before .before .before .before .before .guess .result - 4) + c .before .above .given .0 .0
     ≡ c .before .before .before .before .before .before .args .m * 2 ^ 54
-held c = subst (λ (r : Remainder). Remains (c .before .before .before .before .before .before .args .m) (c .before .before .before .before .before .guess .result - 8) r) (c .before .above .given .1) (c .before .before .before .above-square .ensures)
+held c = subst (λ (r : Remainder). Remains (c .before .before .before .before .before .before .args .m) (c .before .before .before .before .before .guess .result - 4) r) (c .before .above .given .1) (c .before .before .before .above-square .ensures)
 
 guess-requires : tie.Need-guess-requires
 guess-requires c κs = search needs
