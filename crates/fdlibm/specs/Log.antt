@@ -1,4 +1,4 @@
--- fdlibm 5.3's e_log.c: `logOf`, cut where the C's branches meet. Definitions only.
+-- fdlibm 5.3's e_log.c: `logOf`, cut where the C's branches meet; C's k is held as K = k + 1077. Definitions only.
 use Prim.Native.Nat.{ℕ, _+_, _-_, _*_, _/_, _%_}
 use mathlib.Core.Bool.{cond, _&&_}
 use lib.Dec.{ltb, leb}
@@ -66,15 +66,16 @@ logFar K hx f =
     cond (none K) (f ⊖ (hfsq ⊖ s ⊗ (hfsq ⊕ R))) (dk K ⊗ ln2Hi ⊖ (hfsq ⊖ (s ⊗ (hfsq ⊕ R) ⊕ dk K ⊗ ln2Lo) ⊖ f)))
     (cond (none K) (f ⊖ s ⊗ (f ⊖ R)) (dk K ⊗ ln2Hi ⊖ (s ⊗ (f ⊖ R) ⊖ dk K ⊗ ln2Lo ⊖ f)))
 
--- from `if (hx >= 0x7ff00000)` on, where x's high word is not negative; i is the C's i>>20, and hx|(i^0x3ff00000) is hx with 0x3ff in front, or 0x3fe where i is 1
+-- from `if (hx >= 0x7ff00000)` on, where x's high word is not negative and J is the C's k + 54, so that k += (hx>>20)-1023 is K = J + (hx>>20);
+-- i is the C's i>>20, and hx|(i^0x3ff00000) is hx with 0x3ff in front, or 0x3fe where i is 1
 unfoldable pub logFrom : ℕ → Float → Float
-logFrom K x =
+logFrom J x =
     cond (0x7ff0_0000 ≤ˢ highWord x) (x ⊕ x)
     (let hx = highWord x % 0x10_0000 in
     let i = (hx + 0x9_5f64) / 0x10_0000 in
     let f = ofWords (hx + 0x3ff0_0000 - i * 0x10_0000) (lowWord x) ⊖ one in
-    let K' = K + highWord x / 0x10_0000 + i in
-    cond (ltb ((2 + hx) % 0x10_0000) 3) (logNear K' f) (logFar K' hx f))
+    let K = J + highWord x / 0x10_0000 + i in
+    cond (ltb ((2 + hx) % 0x10_0000) 3) (logNear K f) (logFar K hx f))
 
 -- the logarithm
 unfoldable pub logOf : Float → Float

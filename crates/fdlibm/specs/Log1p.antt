@@ -1,4 +1,4 @@
--- fdlibm 5.3's s_log1p.c: `log1pOf`, cut where the C's branches meet. Definitions only.
+-- fdlibm 5.3's s_log1p.c: `log1pOf`, cut where the C's branches meet; C's k is held as K = k + 1077. Definitions only.
 use Prim.Native.Nat.{ℕ, _+_, _-_, _/_, _%_}
 use mathlib.Core.Bool.{cond, _&&_, _||_}
 use lib.Dec.{ltb, leb, eqb}

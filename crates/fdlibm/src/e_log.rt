@@ -74,7 +74,7 @@ fn log_far(k: u32, hx: u32, f: f64) -> f64
     dk * ln2_hi - ((s * (f - R) - dk * ln2_lo) - f)
 }
 
-// From `if (hx >= 0x7ff00000)` on.
+// From `if (hx >= 0x7ff00000)` on, where C's k is 0 or -54. The argument is C's k + 54, which is below 64.
 fn log_from(k: u32, x: f64) -> f64
     requires { ⌜ k < 64 ⌝ }
     ensures { λ r. ⌜ r ≡ logFrom k x ⌝ }

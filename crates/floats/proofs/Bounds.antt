@@ -10,8 +10,8 @@ use lib.Ieee.{Float, ofBits, neg, sub}
 use Rattle.floats.specs.Whole.{IsInt}
 use Rattle.floats.specs.Algebra.{Algebra, doubles, integers}
 use Rattle.floats.proofs.Magnitude.{Mag, neg-mag, add-mag, mul-mag}
-use Rattle.floats.proofs.Exact.{Ex, neg-ex, add-ex, mul-ex}
-use Rattle.floats.proofs.Integers.{int→ex, ex→int, int→mag}
+use Rattle.floats.proofs.Exact.{Exactly, neg-exactly, add-exactly, mul-exactly}
+use Rattle.floats.proofs.Integers.{int→exactly, exactly→int, int→mag}
 use Rattle.floats.proofs.Related.{Closed}
 
 -- b bounds the integer's size, and 2 ^ k the double's
@@ -33,16 +33,16 @@ bounds = record {
 
 -- as long as 2 ^ k does not overflow, x is finite and at most 2 ^ k in size; where b is below 2 ^ 53 too, x is exactly z, which is at most b in size
 abbrev pub Follows : Float → ℤ → Bound → Type 0
-Follows x z β = β .k ≤ 1023 → Mag x (β .k) × (β .b < 2 ^ 53 → Ex x z (β .b))
+Follows x z β = β .k ≤ 1023 → Mag x (β .k) × (β .b < 2 ^ 53 → Exactly x z (β .b))
 
 add-follows : {x x' : Float} {z z' : ℤ} {β β' : Bound} → Follows x z β → Follows x' z' β' → Follows (doubles .add x x') (integers .add z z') (bounds .add β β')
 add-follows {x} {x'} {z} {z'} {β} {β'} p q h =
     let P = p (omega arith) in
     let Q = q (omega arith) in
-    (add-mag x x' (β .k) (β' .k) h (P .0) (Q .0), λ s. add-ex x x' z z' (β .b) (β' .b) s (P .1 (omega arith)) (Q .1 (omega arith)))
+    (add-mag x x' (β .k) (β' .k) h (P .0) (Q .0), λ s. add-exactly x x' z z' (β .b) (β' .b) s (P .1 (omega arith)) (Q .1 (omega arith)))
 
 neg-follows : {x : Float} {z : ℤ} {β : Bound} → Follows x z β → Follows (neg x) (negℤ z) β
-neg-follows {x} {z} {β} p h = let P = p h in (neg-mag x (β .k) (P .0), λ s. neg-ex x z (β .b) (P .1 s))
+neg-follows {x} {z} {β} p h = let P = p h in (neg-mag x (β .k) (P .0), λ s. neg-exactly x z (β .b) (P .1 s))
 
 sub-follows : {x x' : Float} {z z' : ℤ} {β β' : Bound} → Follows x z β → Follows x' z' β' → Follows (doubles .sub x x') (integers .sub z z') (bounds .sub β β')
 unfolding sub
@@ -52,7 +52,7 @@ mul-follows : {x x' : Float} {z z' : ℤ} {β β' : Bound} → Follows x z β �
 mul-follows {x} {x'} {z} {z'} {β} {β'} p q h =
     let P = p (omega arith) in
     let Q = q (omega arith) in
-    (mul-mag x x' (β .k) (β' .k) h (P .0) (Q .0), λ s. mul-ex x x' z z' (β .b) (β' .b) (β .k) (β' .k) s (P .0) (Q .0) (P .1) (Q .1))
+    (mul-mag x x' (β .k) (β' .k) h (P .0) (Q .0), λ s. mul-exactly x x' z z' (β .b) (β' .b) (β .k) (β' .k) s (P .0) (Q .0) (P .1) (Q .1))
 
 zero-follows : Follows (doubles .zero) (integers .zero) (bounds .zero)
 unfolding ofBits
@@ -83,7 +83,7 @@ closed = record {
 -- ---- from an integer, and back to one
 
 pub int-follows : (k : ℕ) (x : Float) (z : ℤ) → IsInt x z → natAbs z ≤ 2 ^ k → Follows x z (record { b = 2 ^ k; k = k })
-int-follows k x z h l = λ _. (int→mag x z k h l, λ _. int→ex x z (2 ^ k) h l)
+int-follows k x z h l = λ _. (int→mag x z k h l, λ _. int→exactly x z (2 ^ k) h l)
 
 pub follows-int : (x : Float) (z : ℤ) (β : Bound) → Follows x z β → β .k ≤ 1023 → β .b < 2 ^ 53 → IsInt x z
-follows-int x z β f h l = ex→int x z (β .b) (f h .1 l)
+follows-int x z β f h l = exactly→int x z (β .b) (f h .1 l)

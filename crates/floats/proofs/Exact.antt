@@ -17,7 +17,7 @@ use Rattle.floats.proofs.Magnitude.{Mag}
 use Rattle.floats.proofs.Signs.{signed-not, signed-zero, signed-mul, signed-add, down-to, below-zero, flip}
 
 -- x has the value z, of size at most b
-pub record Ex (x : Float) (z : ℤ) (b : ℕ) : Type 0 where
+pub record Exactly (x : Float) (z : ℤ) (b : ℕ) : Type 0 where
   pub s : Bool
   pub a : ℕ
   pub val : HasValue x s a 1
@@ -32,8 +32,8 @@ neg-val nan s a h = h
 neg-val (inf t) s a h = h
 neg-val (fin t m e) s a h = (ap not (h .0), h .1)
 
-pub neg-ex : (x : Float) (z : ℤ) (b : ℕ) → Ex x z b → Ex (neg x) (negℤ z) b
-neg-ex x z b h = record {
+pub neg-exactly : (x : Float) (z : ℤ) (b : ℕ) → Exactly x z b → Exactly (neg x) (negℤ z) b
+neg-exactly x z b h = record {
   s = not (h .s);
   a = h .a;
   val = neg-val x (h .s) (h .a) (h .val);
@@ -58,7 +58,7 @@ mul-val (fin u m e) (fin v n d) s t a b h p q =
     h)
 
 -- zero times a finite double, on either side
-round-zero : (s : Bool) (num den : ℕ) → 0 < den → num ≡ 0 → Ex (round binary64 s num den) (pos 0) 0
+round-zero : (s : Bool) (num den : ℕ) → 0 < den → num ≡ 0 → Exactly (round binary64 s num den) (pos 0) 0
 round-zero s num den dp h = record {
   s = s;
   a = 0;
@@ -70,23 +70,23 @@ round-zero s num den dp h = record {
 nothing : (x : ℕ) (e : ℤ) → x * 1 ≡ 0 * down e → x ≡ 0
 nothing x e h = sym (mul-one x) ∙ h ∙ zero-mul (down e)
 
-zero-mul-ex : (x y : Float) (s : Bool) (k : ℕ) → HasValue x s 0 1 → Mag y k → Ex (mul binary64 x y) (pos 0) 0
+zero-mul-exactly : (x y : Float) (s : Bool) (k : ℕ) → HasValue x s 0 1 → Mag y k → Exactly (mul binary64 x y) (pos 0) 0
 unfolding mul
-zero-mul-ex nan y s k p q = absurd p
-zero-mul-ex (inf u) y s k p q = absurd p
-zero-mul-ex (fin u m e) nan s k p q = absurd q
-zero-mul-ex (fin u m e) (inf v) s k p q = absurd q
-zero-mul-ex (fin u m e) (fin v n d) s k p q =
+zero-mul-exactly nan y s k p q = absurd p
+zero-mul-exactly (inf u) y s k p q = absurd p
+zero-mul-exactly (fin u m e) nan s k p q = absurd q
+zero-mul-exactly (fin u m e) (inf v) s k p q = absurd q
+zero-mul-exactly (fin u m e) (fin v n d) s k p q =
     round-zero (unlike u v) (m * up e * (n * up d)) (down e * down d) (mul-pos (down-pos e) (down-pos d))
     (ap (λ (w : ℕ). w * (n * up d)) (nothing (m * up e) e (p .1)) ∙ zero-mul (n * up d))
 
-mul-zero-ex : (x y : Float) (t : Bool) (k : ℕ) → Mag x k → HasValue y t 0 1 → Ex (mul binary64 x y) (pos 0) 0
+mul-zero-exactly : (x y : Float) (t : Bool) (k : ℕ) → Mag x k → HasValue y t 0 1 → Exactly (mul binary64 x y) (pos 0) 0
 unfolding mul
-mul-zero-ex nan y t k p q = absurd p
-mul-zero-ex (inf u) y t k p q = absurd p
-mul-zero-ex (fin u m e) nan t k p q = absurd q
-mul-zero-ex (fin u m e) (inf v) t k p q = absurd q
-mul-zero-ex (fin u m e) (fin v n d) t k p q =
+mul-zero-exactly nan y t k p q = absurd p
+mul-zero-exactly (inf u) y t k p q = absurd p
+mul-zero-exactly (fin u m e) nan t k p q = absurd q
+mul-zero-exactly (fin u m e) (inf v) t k p q = absurd q
+mul-zero-exactly (fin u m e) (fin v n d) t k p q =
     round-zero (unlike u v) (m * up e * (n * up d)) (down e * down d) (mul-pos (down-pos e) (down-pos d))
     (ap (λ (w : ℕ). m * up e * w) (nothing (n * up d) d (q .1)) ∙ mul-zero (m * up e))
 
@@ -94,7 +94,7 @@ sub-mul : (a b c : ℕ) → (a - b) * c ≡ a * c - b * c
 sub-mul a b c = mul-comm (a - b) c ∙ mul-sub c a b ∙ ap₂ _-_ (mul-comm c a) (mul-comm c b)
 
 -- ---- sums, of two sizes a and b over a common denominator c
-sum-val : (s : Bool) (a : ℕ) (t : Bool) (b c : ℕ) → 0 < c → a + b < 2 ^ 53 → Ex (sum binary64 s (a * c) t (b * c) c) (signed s a +ℤ signed t b) (a + b)
+sum-val : (s : Bool) (a : ℕ) (t : Bool) (b c : ℕ) → 0 < c → a + b < 2 ^ 53 → Exactly (sum binary64 s (a * c) t (b * c) c) (signed s a +ℤ signed t b) (a + b)
 unfolding sum
 sum-val false a false b c cp h = record {
   s = false;
@@ -114,7 +114,7 @@ sum-val false a true b c cp h =
     go (ltb (a * c) (b * c)) (λ p. lt-of-mul-lt-mul-right c (ltb→lt (a * c) (b * c) p)) (λ p. le-of-mul-le-mul-right (nltb→le (a * c) (b * c) p) cp)
   where
     go : (u : Bool) → (T u → a < b) → (T (not u) → b ≤ a)
-        → Ex (cond u (round binary64 true (b * c - a * c) c) (round binary64 false (a * c - b * c) c)) (pos a +ℤ negℤ (pos b)) (a + b)
+        → Exactly (cond u (round binary64 true (b * c - a * c) c) (round binary64 false (a * c - b * c) c)) (pos a +ℤ negℤ (pos b)) (a + b)
     go true p q = record {
       s = true;
       a = b - a;
@@ -140,7 +140,7 @@ sum-val true a false b c cp h =
     level x y p q = omega arith
 
     go : (u v : Bool) → (T u → a < b) → (T v → b < a) → (T (not v) → a ≤ b) → (T (not u) → b ≤ a)
-        → Ex (cond u (round binary64 false (b * c - a * c) c) (round binary64 v (a * c - b * c) c)) (negℤ (pos a) +ℤ pos b) (a + b)
+        → Exactly (cond u (round binary64 false (b * c - a * c) c) (round binary64 v (a * c - b * c) c)) (negℤ (pos a) +ℤ pos b) (a + b)
     go true v p q r w = let l : a < b = p tt in record {
       s = false;
       a = b - a;
@@ -163,28 +163,28 @@ sum-val true a false b c cp h =
       le = omega arith;
     }
 
-pub mul-ex : (x y : Float) (z w : ℤ) (b c k l : ℕ) → b * c < 2 ^ 53 → Mag x k → Mag y l → (b < 2 ^ 53 → Ex x z b) → (c < 2 ^ 53 → Ex y w c) → Ex (mul binary64 x y) (z *ℤ w) (b * c)
-mul-ex x y z w b c k l h mx my p q = go (eq-zero-or-pos b) (eq-zero-or-pos c)
+pub mul-exactly : (x y : Float) (z w : ℤ) (b c k l : ℕ) → b * c < 2 ^ 53 → Mag x k → Mag y l → (b < 2 ^ 53 → Exactly x z b) → (c < 2 ^ 53 → Exactly y w c) → Exactly (mul binary64 x y) (z *ℤ w) (b * c)
+mul-exactly x y z w b c k l h mx my p q = go (eq-zero-or-pos b) (eq-zero-or-pos c)
   where
     le-zero : (n : ℕ) → n ≤ 0 → n ≡ 0
     le-zero n e = omega arith
 
-    from-zero : {v : Float} {u : ℤ} → u ≡ pos 0 → Ex v (pos 0) 0 → Ex v u (b * c)
+    from-zero : {v : Float} {u : ℤ} → u ≡ pos 0 → Exactly v (pos 0) 0 → Exactly v u (b * c)
     from-zero e r = record { s = r .s; a = r .a; val = r .val; is = r .is ∙ sym e; le = le-trans (r .le) zero-le }
 
-    first : Ex x z 0 → Ex (mul binary64 x y) (z *ℤ w) (b * c)
+    first : Exactly x z 0 → Exactly (mul binary64 x y) (z *ℤ w) (b * c)
     first r =
         let e : r .a ≡ 0 = le-zero (r .a) (r .le) in
         let ze : z ≡ pos 0 = sym (r .is) ∙ ap (signed (r .s)) e ∙ signed-zero (r .s) in
-        from-zero (ap (λ (v : ℤ). v *ℤ w) ze ∙ zero-*ℤ w) (zero-mul-ex x y (r .s) l (subst (λ (n : ℕ). HasValue x (r .s) n 1) e (r .val)) my)
+        from-zero (ap (λ (v : ℤ). v *ℤ w) ze ∙ zero-*ℤ w) (zero-mul-exactly x y (r .s) l (subst (λ (n : ℕ). HasValue x (r .s) n 1) e (r .val)) my)
 
-    second : Ex y w 0 → Ex (mul binary64 x y) (z *ℤ w) (b * c)
+    second : Exactly y w 0 → Exactly (mul binary64 x y) (z *ℤ w) (b * c)
     second r =
         let e : r .a ≡ 0 = le-zero (r .a) (r .le) in
         let we : w ≡ pos 0 = sym (r .is) ∙ ap (signed (r .s)) e ∙ signed-zero (r .s) in
-        from-zero (ap (λ (v : ℤ). z *ℤ v) we ∙ *ℤ-zero z) (mul-zero-ex x y (r .s) k mx (subst (λ (n : ℕ). HasValue y (r .s) n 1) e (r .val)))
+        from-zero (ap (λ (v : ℤ). z *ℤ v) we ∙ *ℤ-zero z) (mul-zero-exactly x y (r .s) k mx (subst (λ (n : ℕ). HasValue y (r .s) n 1) e (r .val)))
 
-    both : Ex x z b → Ex y w c → Ex (mul binary64 x y) (z *ℤ w) (b * c)
+    both : Exactly x z b → Exactly y w c → Exactly (mul binary64 x y) (z *ℤ w) (b * c)
     both r t = record {
       s = unlike (r .s) (t .s);
       a = r .a * t .a;
@@ -200,12 +200,12 @@ mul-ex x y z w b c k l h mx my p q = go (eq-zero-or-pos b) (eq-zero-or-pos c)
     right : 0 < b → c < 2 ^ 53
     right bp = lt-of-le-of-lt (le-trans (le-of-eq (sym (mul-one c))) (le-trans (mul-le-mul-left c bp) (le-of-eq (mul-comm c b)))) h
 
-    go : (b ≡ 0) ⊎ (0 < b) → (c ≡ 0) ⊎ (0 < c) → Ex (mul binary64 x y) (z *ℤ w) (b * c)
-    go (inl e) r = first (subst (λ (n : ℕ). Ex x z n) e (p (subst (λ (n : ℕ). n < 2 ^ 53) (sym e) (pow-pos 53))))
-    go (inr bp) (inl e) = second (subst (λ (n : ℕ). Ex y w n) e (q (subst (λ (n : ℕ). n < 2 ^ 53) (sym e) (pow-pos 53))))
+    go : (b ≡ 0) ⊎ (0 < b) → (c ≡ 0) ⊎ (0 < c) → Exactly (mul binary64 x y) (z *ℤ w) (b * c)
+    go (inl e) r = first (subst (λ (n : ℕ). Exactly x z n) e (p (subst (λ (n : ℕ). n < 2 ^ 53) (sym e) (pow-pos 53))))
+    go (inr bp) (inl e) = second (subst (λ (n : ℕ). Exactly y w n) e (q (subst (λ (n : ℕ). n < 2 ^ 53) (sym e) (pow-pos 53))))
     go (inr bp) (inr cp) = both (p (left cp)) (q (right bp))
 
-add-val : (x y : Float) (s t : Bool) (a b : ℕ) → a + b < 2 ^ 53 → HasValue x s a 1 → HasValue y t b 1 → Ex (add binary64 x y) (signed s a +ℤ signed t b) (a + b)
+add-val : (x y : Float) (s t : Bool) (a b : ℕ) → a + b < 2 ^ 53 → HasValue x s a 1 → HasValue y t b 1 → Exactly (add binary64 x y) (signed s a +ℤ signed t b) (a + b)
 unfolding add
 add-val nan y s t a b h p q = absurd p
 add-val (inf u) y s t a b h p q = absurd p
@@ -215,16 +215,16 @@ add-val (fin u m e) (fin v n d) s t a b h p q =
     let c = down e * down d in
     let l : m * up e * down d ≡ a * c = ap (λ (w : ℕ). w * down d) (sym (mul-one (m * up e)) ∙ p .1) ∙ mul-assoc a (down e) (down d) in
     let r : n * up d * down e ≡ b * c = ap (λ (w : ℕ). w * down e) (sym (mul-one (n * up d)) ∙ q .1) ∙ mul-assoc b (down d) (down e) ∙ ap (λ (w : ℕ). b * w) (mul-comm (down d) (down e)) in
-    subst₂ (λ (i j : Bool). Ex (sum binary64 u (m * up e * down d) v (n * up d * down e) c) (signed i a +ℤ signed j b) (a + b)) (p .0) (q .0)
-    (subst₂ (λ (i j : ℕ). Ex (sum binary64 u i v j c) (signed u a +ℤ signed v b) (a + b)) (sym l) (sym r)
+    subst₂ (λ (i j : Bool). Exactly (sum binary64 u (m * up e * down d) v (n * up d * down e) c) (signed i a +ℤ signed j b) (a + b)) (p .0) (q .0)
+    (subst₂ (λ (i j : ℕ). Exactly (sum binary64 u i v j c) (signed u a +ℤ signed v b) (a + b)) (sym l) (sym r)
     (sum-val u a v b c (mul-pos (down-pos e) (down-pos d)) h))
 
-pub add-ex : (x y : Float) (z w : ℤ) (b c : ℕ) → b + c < 2 ^ 53 → Ex x z b → Ex y w c → Ex (add binary64 x y) (z +ℤ w) (b + c)
-add-ex x y z w b c h p q =
+pub add-exactly : (x y : Float) (z w : ℤ) (b c : ℕ) → b + c < 2 ^ 53 → Exactly x z b → Exactly y w c → Exactly (add binary64 x y) (z +ℤ w) (b + c)
+add-exactly x y z w b c h p q =
     let l : p .a + q .a ≤ b + c = add-le-add (p .le) (q .le) in
     let r = add-val x y (p .s) (q .s) (p .a) (q .a) (lt-of-le-of-lt l h) (p .val) (q .val) in
     record { s = r .s; a = r .a; val = r .val; is = r .is ∙ ap₂ _+ℤ_ (p .is) (q .is); le = le-trans (r .le) l }
 
-pub sub-ex : (x y : Float) (z w : ℤ) (b c : ℕ) → b + c < 2 ^ 53 → Ex x z b → Ex y w c → Ex (sub binary64 x y) (z -ℤ w) (b + c)
+pub sub-exactly : (x y : Float) (z w : ℤ) (b c : ℕ) → b + c < 2 ^ 53 → Exactly x z b → Exactly y w c → Exactly (sub binary64 x y) (z -ℤ w) (b + c)
 unfolding sub
-sub-ex x y z w b c h p q = add-ex x (neg y) z (negℤ w) b c h p (neg-ex y w c q)
+sub-exactly x y z w b c h p q = add-exactly x (neg y) z (negℤ w) b c h p (neg-exactly y w c q)

@@ -13,7 +13,7 @@ use lib.Ieee.Exact.{HasValue}
 use Rattle.floats.specs.Whole.{signed, IsRatio, IsInt}
 use Rattle.floats.proofs.Signs.{abs-signed, abs-times, signed-times, sign-of-multiple}
 use Rattle.floats.proofs.Magnitude.{Mag}
-use Rattle.floats.proofs.Exact.{Ex, add-ex, sub-ex, mul-ex}
+use Rattle.floats.proofs.Exact.{Exactly, add-exactly, sub-exactly, mul-exactly}
 
 -- ---- values and ratios
 
@@ -25,15 +25,15 @@ value→ratio (fin t m e) s a c h = subst (λ (u : Bool). signed t (m * up e * c
 size-of-int : (s : Bool) (m : ℕ) (e : ℤ) (z : ℤ) → IsInt (fin s m e) z → m * up e * 1 ≡ natAbs z * down e
 size-of-int s m e z h = sym (abs-signed s (m * up e * 1)) ∙ ap natAbs h ∙ abs-times z (down e)
 
-pub int→ex : (x : Float) (z : ℤ) (b : ℕ) → IsInt x z → natAbs z ≤ b → Ex x z b
-int→ex nan z b h l = absurd h
-int→ex (inf s) z b h l = absurd h
-int→ex (fin s m e) z b h l =
+pub int→exactly : (x : Float) (z : ℤ) (b : ℕ) → IsInt x z → natAbs z ≤ b → Exactly x z b
+int→exactly nan z b h l = absurd h
+int→exactly (inf s) z b h l = absurd h
+int→exactly (fin s m e) z b h l =
     let size = size-of-int s m e z h in
     record { s = s; a = natAbs z; val = (refl, size); is = sign-of-multiple s (m * up e * 1) z (down e) (down-pos e) size h; le = l }
 
-pub ex→int : (x : Float) (z : ℤ) (b : ℕ) → Ex x z b → IsInt x z
-ex→int x z b h = subst (λ (w : ℤ). IsInt x w) (h .is) (value→ratio x (h .s) (h .a) 1 (h .val))
+pub exactly→int : (x : Float) (z : ℤ) (b : ℕ) → Exactly x z b → IsInt x z
+exactly→int x z b h = subst (λ (w : ℤ). IsInt x w) (h .is) (value→ratio x (h .s) (h .a) 1 (h .val))
 
 pub int→mag : (x : Float) (z : ℤ) (k : ℕ) → IsInt x z → natAbs z ≤ 2 ^ k → Mag x k
 int→mag nan z k h l = absurd h
@@ -43,22 +43,22 @@ int→mag (fin s m e) z k h l = le-trans (le-of-eq (sym (mul-one (m * up e)) ∙
 -- ---- exact sums, differences and products
 
 module _ (x y : Float) (z w : ℤ) (p : IsInt x z) (q : IsInt y w) where
-  left : Ex x z (natAbs z)
-  left = int→ex x z (natAbs z) p (le-refl (natAbs z))
+  left : Exactly x z (natAbs z)
+  left = int→exactly x z (natAbs z) p (le-refl (natAbs z))
 
-  right : Ex y w (natAbs w)
-  right = int→ex y w (natAbs w) q (le-refl (natAbs w))
+  right : Exactly y w (natAbs w)
+  right = int→exactly y w (natAbs w) q (le-refl (natAbs w))
 
   pub add-int : natAbs z + natAbs w < 2 ^ 53 → IsInt (add binary64 x y) (z +ℤ w)
-  add-int h = ex→int (add binary64 x y) (z +ℤ w) (natAbs z + natAbs w) (add-ex x y z w (natAbs z) (natAbs w) h left right)
+  add-int h = exactly→int (add binary64 x y) (z +ℤ w) (natAbs z + natAbs w) (add-exactly x y z w (natAbs z) (natAbs w) h left right)
 
   pub sub-int : natAbs z + natAbs w < 2 ^ 53 → IsInt (sub binary64 x y) (z -ℤ w)
-  sub-int h = ex→int (sub binary64 x y) (z -ℤ w) (natAbs z + natAbs w) (sub-ex x y z w (natAbs z) (natAbs w) h left right)
+  sub-int h = exactly→int (sub binary64 x y) (z -ℤ w) (natAbs z + natAbs w) (sub-exactly x y z w (natAbs z) (natAbs w) h left right)
 
   pub mul-int : natAbs z * natAbs w < 2 ^ 53 → IsInt (mul binary64 x y) (z *ℤ w)
   mul-int h =
-      ex→int (mul binary64 x y) (z *ℤ w) (natAbs z * natAbs w)
-      (mul-ex x y z w (natAbs z) (natAbs w) (size (natAbs z)) (size (natAbs w)) h
+      exactly→int (mul binary64 x y) (z *ℤ w) (natAbs z * natAbs w)
+      (mul-exactly x y z w (natAbs z) (natAbs w) (size (natAbs z)) (size (natAbs w)) h
       (int→mag x z (size (natAbs z)) p (le-of-lt (size-lt (natAbs z))))
       (int→mag y w (size (natAbs w)) q (le-of-lt (size-lt (natAbs w))))
       (λ _. left)

@@ -78,8 +78,8 @@ count-exact x p =
 
 -- ---- two doubles are at least a step apart
 
-either : (a b : ℕ) → (a ≤ b) ⊎ (b < a)
-either a b = go (leb a b) (leb→le a b) (nleb→lt a b)
+le-or-lt : (a b : ℕ) → (a ≤ b) ⊎ (b < a)
+le-or-lt a b = go (leb a b) (leb→le a b) (nleb→lt a b)
   where
     go : (t : Bool) → (T t → a ≤ b) → (T (not t) → b < a) → (a ≤ b) ⊎ (b < a)
     go true f g = inl (f tt)
@@ -110,7 +110,7 @@ step-above q k M j a b l = ⊎-elim
     let f : M * 2 ^ j + 2 ^ k ≤ 2 ^ 52 * 2 ^ suc k = fine M j k b (omega arith) in
     let g : 2 ^ 52 * 2 ^ suc k ≤ q * 2 ^ suc k = mul-le-mul-right (2 ^ suc k) a in
     absurd (clash (q * 2 ^ suc k) (M * 2 ^ j) (2 ^ k) (2 ^ 52 * 2 ^ suc k) l f g))
-    (either (suc k) j)
+    (le-or-lt (suc k) j)
   where
     clash : (r y u p : ℕ) → r < y → y + u ≤ p → p ≤ r → ⊥
     clash r y u p h k l = omega arith
@@ -132,8 +132,8 @@ step-below q k M j a b l = ⊎-elim
     (λ (g : 2 ^ 52 < q).
     let u : (2 ^ 52 + 1) * 2 ^ suc k ≤ q * 2 ^ suc k = mul-le-mul-right (2 ^ suc k) (omega arith) in
     inl (omega arith))
-    (either q (2 ^ 52)))
-    (either (suc k) j)
+    (le-or-lt q (2 ^ 52)))
+    (le-or-lt (suc k) j)
   where
     join : (y w v r p : ℕ) → y ≡ w → v ≡ w + 1 * p → v ≤ r → y + p ≤ r
     join y w v r p e f h = omega arith
@@ -204,7 +204,7 @@ units-of q k a b = ⊎-elim
     units-high ((k + 1) * 2 ^ 52 + q) (omega arith)
     ∙ ap (λ (x : ℕ). x * 2 ^ (((k + 1) * 2 ^ 52 + q) / 2 ^ 52 - 1)) p
     ∙ ap (λ (x : ℕ). q * 2 ^ x) e)
-    (either (2 ^ 53) q)
+    (le-or-lt (2 ^ 53) q)
 
 -- s is the root of P, cut to 54 digits, and q is s rounded to 53
 record Digits (P q : ℕ) : Type 0 where
@@ -222,7 +222,7 @@ digits P s f lo hi e =
       q-lo = omega arith;
       q-hi = omega arith;
       over = lt-of-lt-of-le (f .1) (square-le {a = s + 1} {b = 2 * q + 1} (omega arith));
-      under = ⊎-elim (uneven (2 * q - 1) s-lo) (even (2 * q - 1) s-lo) (either 1 (s % 2));
+      under = ⊎-elim (uneven (2 * q - 1) s-lo) (even (2 * q - 1) s-lo) (le-or-lt 1 (s % 2));
       edge = λ g. le-trans (square-le {a = 2 * q} {b = s} (omega arith)) (f .0);
     }
   where

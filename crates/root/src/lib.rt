@@ -6,10 +6,19 @@ ghost use Rattle.floats.specs.Units.{unitsAt};
 ghost use Rattle.root.specs.Root.{floorRoot, rootBits, rootOf};
 ghost use Rattle.root.specs.Remainder.{Remains};
 
-// 2^52, the weight of a significand's leading digit.
-const LEADING: u64 = 4503599627370496;
+const TWO27: u64 = 0x800_0000;
 
-// The whole part of √(m · 2^54), a digit at a time. `rest` is what has not been brought down yet.
+const TWO36: u64 = 0x10_0000_0000;
+
+// The weight of a significand's leading digit.
+const TWO52: u64 = 0x10_0000_0000_0000;
+
+const TWO53: u64 = 0x20_0000_0000_0000;
+
+const TWO54: u64 = 0x40_0000_0000_0000;
+
+// The whole part of √(m · 2^54), for an m below 2^54, a digit at a time. `rest` is what has not been
+// brought down yet.
 fn floor_root(m: u64) -> u64
     requires { ⌜ m < 2 ^ 54 ⌝ }
     ensures { λ r. ⌜ r ≡ floorRoot 54 (m * 2 ^ 54) ⌝ }
@@ -19,8 +28,8 @@ fn floor_root(m: u64) -> u64
     let mut rem: u64 = 0;
     let mut i: u64 = 0;
     while i < 54 {
-        rem = rem * 4 + rest / LEADING;
-        rest = rest % LEADING * 4;
+        rem = rem * 4 + rest / TWO52;
+        rest = rest % TWO52 * 4;
         s = s * 2;
         if s * 2 < rem {
             rem = rem - s * 2 - 1;
@@ -31,19 +40,20 @@ fn floor_root(m: u64) -> u64
     s
 }
 
-// A guess at √(m · 2^54), by four Newton steps. Nothing is promised of it: `above_square` certifies it.
+// A guess at √(m · 2^54), for an m from 2^52 to below 2^54: the double m · 2^-52 times four Newton
+// steps of its reciprocal root. Nothing is promised of the guess, since `above_square` certifies it.
 fn guess(m: u64) -> u64
     requires { ⌜ 2 ^ 52 ≤ m ⌝ }
     requires { ⌜ m < 2 ^ 54 ⌝ }
 {
-    let b = if m < 9007199254740992 {
-        m + 4602678819172646912
+    let b = if m < TWO53 {
+        m + 0x3fe0_0000_0000_0000
     } else {
-        m / 2 + 4607182418800017408
+        m / 2 + 0x3ff0_0000_0000_0000
     };
     let v = f64::from_bits(b);
     let h = v * 0.5;
-    let y0 = f64::from_bits(6910469410427058089 - b / 2);
+    let y0 = f64::from_bits(0x5fe6_eb50_c7b5_37a9 - b / 2);
     let y1 = y0 * (1.5 - h * y0 * y0);
     let y2 = y1 * (1.5 - h * y1 * y1);
     let y3 = y2 * (1.5 - h * y2 * y2);
@@ -57,7 +67,7 @@ fn guess(m: u64) -> u64
     0
 }
 
-// What a number has above a square, or that it was not found: it is negative, or too large for 64 bits.
+// What a number has above a square, or that it was not found: it is negative, or too large.
 enum Remainder {
     Found(u64),
     NotFound,
@@ -67,21 +77,21 @@ enum Remainder {
 fn above_square(m: u64, s: u64) -> Remainder
     ensures { λ r. ⌜ Remains m s r ⌝ }
 {
-    if s >= 18014398509481984 {
+    if s >= TWO54 {
         return Remainder::NotFound;
     }
-    let hi = s / 134217728;
-    let lo = s % 134217728;
+    let hi = s / TWO27;
+    let lo = s % TWO27;
     let hh = hi * hi;
-    if m < hh || m - hh >= 68719476736 {
+    if m < hh || m - hh >= TWO36 {
         return Remainder::NotFound;
     }
-    let d = (m - hh) * 134217728;
+    let d = (m - hh) * TWO27;
     let hl = hi * lo * 2;
-    if d < hl || d - hl >= 68719476736 {
+    if d < hl || d - hl >= TWO36 {
         return Remainder::NotFound;
     }
-    let e = (d - hl) * 134217728;
+    let e = (d - hl) * TWO27;
     let ll = lo * lo;
     if e < ll {
         return Remainder::NotFound;
@@ -89,7 +99,7 @@ fn above_square(m: u64, s: u64) -> Remainder
     Remainder::Found(e - ll)
 }
 
-// The whole part of √(start · start + above), by single steps up from start.
+// The whole part of √(start · start + above), for a number below 4^54, by single steps up from start.
 fn step_up(start: u64, above: u64) -> u64
     requires { ⌜ start * start + above < 4 ^ 54 ⌝ }
     ensures { λ r. ⌜ r ≡ floorRoot 54 (start * start + above) ⌝ }
@@ -103,7 +113,8 @@ fn step_up(start: u64, above: u64) -> u64
     s
 }
 
-// The whole part of √(m · 2^54), by the guess where it is certified. It may be too large by a few.
+// The whole part of √(m · 2^54), for an m from 2^52 to below 2^54. It is looked for from 4 below the
+// guess, which is seldom larger than the root by more than that.
 fn near_root(m: u64) -> u64
     requires { ⌜ 2 ^ 52 ≤ m ⌝ }
     requires { ⌜ m < 2 ^ 54 ⌝ }
@@ -119,7 +130,8 @@ fn near_root(m: u64) -> u64
     }
 }
 
-// The pattern of the root of sig · 2^exp · 2^-1126, with the leading digit of sig at 2^52.
+// The pattern of the root of sig · 2^exp · 2^-1126, for a sig with its leading digit at 2^52 and an exp
+// up to 2097.
 fn packed(sig: u64, exp: u64) -> u64
     requires { ⌜ 2 ^ 52 ≤ sig ⌝ }
     requires { ⌜ sig < 2 ^ 53 ⌝ }
@@ -129,23 +141,23 @@ fn packed(sig: u64, exp: u64) -> u64
 {
     let m = if exp % 2 == 0 { sig } else { sig * 2 };
     let s = near_root(m);
-    (exp / 2 + 485) * LEADING + (s + 1) / 2
+    (exp / 2 + 485) * TWO52 + (s + 1) / 2
 }
 
-// The pattern of the root of the positive finite double with the pattern b.
+// The pattern of the root of the double with the pattern b, which is that of a positive finite one.
 fn root_bits(b: u64) -> u64
     requires { ⌜ 0 < b ⌝ }
     requires { ⌜ b < 2047 * 2 ^ 52 ⌝ }
     ensures value { λ r. ⌜ r ≡ rootBits (unitsAt b * 2 ^ 1074) ⌝ }
     ensures range { λ r. ⌜ r < 2047 * 2 ^ 52 ⌝ }
 {
-    let e = b / LEADING;
-    let t = b % LEADING;
+    let e = b / TWO52;
+    let t = b % TWO52;
     if e == 0 {
         let c = u64::leading_zeros(t) - 11;
         return packed(t << c, 52 - c as u64);
     }
-    packed(t + LEADING, e + 51)
+    packed(t + TWO52, e + 51)
 }
 
 // The square root of x.

@@ -17,72 +17,74 @@ use Rattle.root.specs.Root.{rootBits, rootOf}
 use Rattle.root.proofs.root.Statement.{statement}
 use Rattle.root.proofs.root.Tie as tie
 
--- 0.0 and 1.0 / 0.0
-abbrev zero! : Float
-zero! = fin false 0 (pos 0)
+-- 0.0
+abbrev plus-zero : Float
+plus-zero = fin false 0 (pos 0)
 
-no : {A : Type 0} → true ≡ false → A
-no {A} e = absurd (subst T e tt)
+true≢false : {A : Type 0} → true ≡ false → A
+true≢false {A} e = absurd (subst T e tt)
 
-no' : {A : Type 0} → false ≡ true → A
-no' {A} e = absurd (subst T (sym e) tt)
+false≢true : {A : Type 0} → false ≡ true → A
+false≢true {A} e = absurd (subst T (sym e) tt)
 
-none : (e : ℤ) → 0 * up e * 1 ≡ 0
-none e = mul-one (0 * up e) ∙ zero-mul (up e)
+no-units : (e : ℤ) → 0 * up e * 1 ≡ 0
+no-units e = mul-one (0 * up e) ∙ zero-mul (up e)
 
-some : (m : ℕ) (e : ℤ) → 0 < suc m * up e * 1
-some m e = mul-pos (mul-pos (zero-lt-suc m) (up-pos e)) (lit e)
+some-units : (m : ℕ) (e : ℤ) → 0 < suc m * up e * 1
+some-units m e = mul-pos (mul-pos (zero-lt-suc m) (up-pos e)) (lit e)
   where
     lit : (e : ℤ) → 0 < 1
     lit e = omega arith
 
--- x is above zero and below the infinity
+-- ---- the kinds of x that the tests tell apart
+
+-- x is finite and above zero
 data Kind : Float → Type 0 where
   kind : (m : ℕ) (e : ℤ) → Kind (fin false (suc m) e)
 
-above : (x : Float) → lt zero! x ≡ true → lt x (inf false) ≡ true → Kind x
+above : (x : Float) → lt plus-zero x ≡ true → lt x (inf false) ≡ true → Kind x
 unfolding lt
-above nan p q = no' p
-above (inf true) p q = no' p
-above (inf false) p q = no' q
-above (fin true m e) p q = no' p
+above nan p q = false≢true p
+above (inf true) p q = false≢true p
+above (inf false) p q = false≢true q
+above (fin true m e) p q = false≢true p
 above (fin false zero e) p q = absurd (lt-irrefl 0 (lt-of-lt-of-le {n = 0} (under (ltb-true (0 * 1 * down e) (0 * up e * 1) p)) (le e)))
   where
     under : {a b : ℕ} → a < b → 0 < b
     under h = omega arith
 
     le : (e : ℤ) → 0 * up e * 1 ≤ 0
-    le e = omega (arith, none e)
+    le e = omega (arith, no-units e)
 above (fin false (suc m) e) p q = kind m e
 
-infinite : (x : Float) → lt zero! x ≡ true → lt x (inf false) ≡ false → inf false ≡ rootOf x
+infinite : (x : Float) → lt plus-zero x ≡ true → lt x (inf false) ≡ false → inf false ≡ rootOf x
 unfolding lt rootOf
-infinite nan p q = no' p
-infinite (inf true) p q = no' p
+infinite nan p q = false≢true p
+infinite (inf true) p q = false≢true p
 infinite (inf false) p q = refl
-infinite (fin s m e) p q = no q
+infinite (fin s m e) p q = true≢false q
 
-zeros : (x : Float) → eq x zero! ≡ true → x ≡ rootOf x
+zeros : (x : Float) → eq x plus-zero ≡ true → x ≡ rootOf x
 unfolding eq rootOf
 zeros nan p = refl
-zeros (inf s) p = no' p
+zeros (inf s) p = false≢true p
 zeros (fin s zero e) p = refl
-zeros (fin s (suc m) e) p = absurd (clash (suc m * up e * 1) (0 * 1 * down e) (Bool·beq s false || eqb (suc m * up e * 1) 0) (some m e) (zero-mul (down e)) p)
+zeros (fin s (suc m) e) p = absurd (clash (suc m * up e * 1) (0 * 1 * down e) (Bool·beq s false || eqb (suc m * up e * 1) 0) (some-units m e) (zero-mul (down e)) p)
   where
     clash : (a b : ℕ) (c : Bool) → 0 < a → b ≡ 0 → (eqb a b && c) ≡ true → ⊥
     clash a b c h z e = go (eqb a b) c (eqb-true a b) e
       where
         go : (t c : Bool) → (t ≡ true → a ≡ b) → (t && c) ≡ true → ⊥
         go true c k e = let g : a ≡ b = k refl in omega arith
-        go false true k e = no' e
-        go false false k e = no' e
+        go false true k e = false≢true e
+        go false false k e = false≢true e
 
-others : (x : Float) → lt zero! x ≡ false → eq x zero! ≡ false → nan ≡ rootOf x
+others : (x : Float) → lt plus-zero x ≡ false → eq x plus-zero ≡ false → nan ≡ rootOf x
 unfolding lt eq rootOf
 others nan p q = refl
 others (inf true) p q = refl
-others (inf false) p q = no p
-others (fin s zero e) p q = no (sym (same s (0 * up e * 1) (0 * 1 * down e) (none e) (zero-mul (down e))) ∙ q)
+others (inf false) p q = true≢false p
+others (fin s zero e) p q = true≢false (sym (same s (0 * up e * 1) (0 * 1 * down e) (no-units e) (zero-mul (down e))) ∙ q)
   where
     same : (s : Bool) (a b : ℕ) → a ≡ 0 → b ≡ 0 → (eqb a b && (Bool·beq s false || eqb a 0)) ≡ true
     same s a b e f = subst (λ (a : ℕ). (eqb a b && (Bool·beq s false || eqb a 0)) ≡ true) (sym e) (subst (λ (b : ℕ). (eqb 0 b && (Bool·beq s false || eqb 0 0)) ≡ true) (sym f) (go s))
@@ -91,7 +93,7 @@ others (fin s zero e) p q = no (sym (same s (0 * up e * 1) (0 * 1 * down e) (non
         go true = refl
         go false = refl
 others (fin true (suc m) e) p q = refl
-others (fin false (suc m) e) p q = no (sym (lt-ltb (0 * 1 * down e) (suc m * up e * 1) (subst (λ (n : ℕ). n < suc m * up e * 1) (sym (zero-mul (down e))) (some m e))) ∙ p)
+others (fin false (suc m) e) p q = true≢false (sym (lt-ltb (0 * 1 * down e) (suc m * up e * 1) (subst (λ (n : ℕ). n < suc m * up e * 1) (sym (zero-mul (down e))) (some-units m e))) ∙ p)
 
 -- ---- a positive finite x and its pattern
 
