@@ -1,8 +1,8 @@
 -- Doubles whose value is an integer of bounded size, and their negation, products, sums and differences: exact below 2 ^ 53. Assumes nothing.
+use Prim.Native.Nat.{ℕ, _+_, _-_, _*_, _^_, _≤_, _<_, zero-le}
 use mathlib.Core.Path.{_≡_, refl, sym, ap, _∙_, subst, subst₂, ap₂}
 use mathlib.Core.Logic.{_⊎_, inl, inr}
 use mathlib.Core.Bool.{Bool, true, false, not, cond}
-use Prim.Native.Nat.{ℕ, _+_, _-_, _*_, _^_, _≤_, _<_, zero-le}
 use native.Mathlib.Nat.{le-trans, le-of-eq, le-refl, lt-of-le-of-lt, add-mul, mul-sub, mul-one, mul-zero, mul-comm, mul-assoc, mul-mul-mul-comm, mul-pos, mul-le-mul, mul-le-mul-left, le-of-mul-le-mul-right, lt-of-mul-lt-mul-right, add-le-add, zero-mul, eq-zero-or-pos}
 use native.Mathlib.Omega.{arith}
 use lib.Dec.{T, ltb, ltb→lt, nltb→le}

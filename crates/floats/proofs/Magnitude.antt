@@ -1,7 +1,7 @@
 -- Magnitudes: a double that is finite and at most 2 ^ k in size, through rounding, negation, sums and products. Assumes nothing.
+use Prim.Native.Nat.{ℕ, suc, _+_, _-_, _*_, _/_, _%_, _^_, _≤_, _<_, max, compare}
 use mathlib.Core.Path.{_≡_, sym, ap, _∙_, subst}
 use mathlib.Core.Bool.{Bool, true, false, _&&_, Bool·beq, cond}
-use Prim.Native.Nat.{ℕ, suc, _+_, _-_, _*_, _/_, _%_, _^_, _≤_, _<_, max, compare}
 use native.Mathlib.Nat.{le-trans, le-of-eq, lt-of-le-of-lt, lt-suc-self, add-mul, mul-assoc, mul-comm, mul-one, mul-right-comm, mul-mul-mul-comm, mul-pos, mul-le-mul, mul-le-mul-right, mul-lt-mul-of-pos-right, le-of-mul-le-mul-right, add-le-add, le-max-left, le-max-right, div-one, mod-one, div-lt-iff-lt-mul, pow-suc}
 use native.Mathlib.Omega.{arith}
 use lib.Dec.{ltb}

@@ -7,7 +7,7 @@ use native.Mathlib.Omega.{arith}
 use lib.Dec.{T, leb, eqb, nleb→lt}
 use lib.IntN.{ℤ}
 use lib.Ieee.{Float, nan, inf, fin, binary64, up, down, odd, fits, isNan, ne, ofFields, ofBits, toBits, nanBits, ones, hid, top}
-use lib.Ieee.Bits.{is-false, ofBits-toBits, toBits-lt, nanBits-is, nanBits-above}
+use lib.Ieee.Bits.{ofBits-toBits, nanBits-is, nanBits-above}
 use lib.Ieee.Exact.{HasValue, odd-sign}
 use lib.Ieee.Fits.{down-pos}
 use borrow.Author.Tests.{lt-leb, le-leb, eq-eqb, ne-eqb, lt-ltb, le-ltb}

@@ -1,12 +1,12 @@
 -- Sums and products of integers that are given by a sign and a size. Assumes nothing.
+use Prim.Native.Nat.{ℕ, zero, suc, _+_, _-_, _*_, _≤_, _<_}
 use mathlib.Core.Path.{_≡_, refl, sym, ap, _∙_, subst}
 use mathlib.Core.Bool.{Bool, true, false, not}
-use Prim.Native.Nat.{ℕ, zero, suc, _+_, _-_, _*_, _≤_, _<_}
 use native.Mathlib.Nat.{mul-zero, zero-mul, mul-pos, lt-irrefl, zero-lt-suc, eq-of-mul-eq-mul-right}
 use native.Mathlib.Omega.{arith}
-use borrow.Author.Tests.{lt-ltb, le-ltb}
 use lib.IntN.{ℤ, pos, negsuc, negℤ, natAbs, _+ℤ_, _*ℤ_, negℤ-negℤ, negℤ-+ℤ, +ℤ-comm, pos-ne-negsuc}
 use lib.Ieee.{unlike}
+use borrow.Author.Tests.{lt-ltb, le-ltb}
 use Rattle.floats.specs.Whole.{signed}
 
 pub signed-not : (s : Bool) (a : ℕ) → signed (not s) a ≡ negℤ (signed s a)

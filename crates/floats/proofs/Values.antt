@@ -1,7 +1,7 @@
 -- What `HasValue` says, over another denominator, and of a fraction that is rounded: a whole number below 2 ^ 53 is kept. Assumes nothing.
+use Prim.Native.Nat.{ℕ, _*_, _^_, _<_}
 use mathlib.Core.Path.{_≡_, sym, ap, _∙_}
 use mathlib.Core.Bool.{Bool}
-use Prim.Native.Nat.{ℕ, _*_, _^_, _<_}
 use native.Mathlib.Nat.{lt-of-lt-of-le, mul-assoc, one-mul, mul-right-comm, mul-lt-mul-of-pos-right, eq-of-mul-eq-mul-right}
 use lib.Dec.{lit≤}
 use lib.Pow.{pow-pos}

@@ -1,5 +1,5 @@
 -- `floorRoot` is the whole part of the root, and `rootBits` goes by a number of 107 or 108 digits times a power of 4. Assumes nothing.
-use Prim.Native.Nat.{ℕ, zero, suc, _+_, _-_, _*_, _/_, _%_, _^_, _≤_, _<_}
+use Prim.Native.Nat.{ℕ, zero, suc, _+_, _-_, _*_, _/_, _^_, _≤_, _<_}
 use mathlib.Core.Path.{_≡_, refl, sym, ap, _∙_, subst}
 use mathlib.Core.Bool.{Bool, true, false, not, cond}
 use native.Mathlib.Nat.{mul-le-mul, mul-le-mul-right, mul-lt-mul-of-pos-right, le-of-eq, mul-add, mul-comm, mul-assoc, mul-mul-mul-comm, add-mul, pow-succ', mul-div-cancel, lt-of-not-le, lt-of-lt-of-le, le-trans, not-le-of-lt, le-antisymm}

@@ -1,10 +1,10 @@
 -- `floats::abs` meets its contract. Assumes nothing.
-use mathlib.Core.Path.{sym, ap, subst, _∙_}
 use Prim.Native.Nat.{ℕ, _%_, _^_}
+use mathlib.Core.Path.{sym, ap, subst, _∙_}
 use lib.Dec.{T}
 use lib.Ieee.{binary64, ofBits}
-use Rattle.floats.proofs.Patterns.{abs-pattern}
 use borrow.Author.Needs.{needs}
+use Rattle.floats.proofs.Patterns.{abs-pattern}
 use Rattle.floats.proofs.abs.Statement.{statement}
 use Rattle.floats.proofs.abs.Tie as tie
 

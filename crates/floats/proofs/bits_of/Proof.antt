@@ -3,8 +3,8 @@ use mathlib.Core.Path.{_≡_, refl, sym, subst, _∙_}
 use mathlib.Core.Bool.{Bool, not}
 use lib.Dec.{T}
 use lib.Ieee.{Float, binary64, toBits}
-use Rattle.floats.proofs.Patterns.{is-nan}
 use borrow.Author.Needs.{needs}
+use Rattle.floats.proofs.Patterns.{is-nan}
 use Rattle.floats.proofs.bits_of.Statement.{statement}
 use Rattle.floats.proofs.bits_of.Tie as tie
 

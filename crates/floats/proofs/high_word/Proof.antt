@@ -1,8 +1,8 @@
 -- `floats::high_word` meets its contract. Assumes nothing.
+use Prim.Native.Nat.{ℕ, _/_}
 use mathlib.Core.Path.{ap}
-use Prim.Native.Nat.{ℕ, _/_, _%_}
-use Rattle.floats.specs.Words.{highWord}
 use borrow.Author.Needs.{needs}
+use Rattle.floats.specs.Words.{highWord}
 use Rattle.floats.proofs.high_word.Statement.{statement}
 use Rattle.floats.proofs.high_word.Tie as tie
 

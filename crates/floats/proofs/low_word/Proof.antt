@@ -1,8 +1,8 @@
 -- `floats::low_word` meets its contract. Assumes nothing.
+use Prim.Native.Nat.{ℕ, _%_}
 use mathlib.Core.Path.{ap}
-use Prim.Native.Nat.{ℕ, _/_, _%_}
-use Rattle.floats.specs.Words.{lowWord}
 use borrow.Author.Needs.{needs}
+use Rattle.floats.specs.Words.{lowWord}
 use Rattle.floats.proofs.low_word.Statement.{statement}
 use Rattle.floats.proofs.low_word.Tie as tie
 

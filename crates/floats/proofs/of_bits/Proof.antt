@@ -1,8 +1,8 @@
 -- `floats::of_bits` meets its contract. Assumes nothing.
 use mathlib.Core.Path.{sym}
 use lib.Ieee.{div, ofBits}
-use Rattle.floats.proofs.Patterns.{nan-pattern, no-nan-pattern}
 use borrow.Author.Needs.{needs}
+use Rattle.floats.proofs.Patterns.{nan-pattern, no-nan-pattern}
 use Rattle.floats.proofs.of_bits.Statement.{statement}
 use Rattle.floats.proofs.of_bits.Tie as tie
 

@@ -1,6 +1,6 @@
 -- `floats::of_words` meets its contract. Assumes nothing.
-use Rattle.floats.specs.Words.{ofWords}
 use borrow.Author.Needs.{needs}
+use Rattle.floats.specs.Words.{ofWords}
 use Rattle.floats.proofs.of_words.Statement.{statement}
 use Rattle.floats.proofs.of_words.Tie as tie
 

@@ -1,12 +1,10 @@
 -- `floats::signum` meets its contract. Assumes nothing.
 use mathlib.Core.Path.{_≡_, refl, sym, subst, _∙_}
-use mathlib.Core.Bool.{Bool, true, false}
-use Prim.Native.Nat.{_<_, _≤_}
 use lib.Dec.{T}
-use lib.Ieee.{Float, nan, isNan, fits, binary64}
+use lib.Ieee.{Float}
+use borrow.Author.Needs.{needs}
 use Rattle.floats.specs.Methods.{signumOf}
 use Rattle.floats.proofs.Patterns.{is-nan, signum-clear, signum-set}
-use borrow.Author.Needs.{needs}
 use Rattle.floats.proofs.signum.Statement.{statement}
 use Rattle.floats.proofs.signum.Tie as tie
 

@@ -1,7 +1,7 @@
 -- `replay_fdlibm::replay` is safe: each line that is read lies within the text. Assumes nothing.
 use Prim.Native.Nat.{_≤_, _-_}
-use borrow.Author.Needs.{needs}
 use lib.ListN.{length}
+use borrow.Author.Needs.{needs}
 use Rattle.replay_fdlibm.proofs.replay.Statement.{statement}
 use Rattle.replay_fdlibm.proofs.replay.Tie as tie
 

@@ -1,6 +1,6 @@
 -- `root::above_square` meets its contract: with s = hi * 2 ^ 27 + lo the parts of its square are hi * hi, 2 * hi * lo and lo * lo. Assumes nothing.
-use mathlib.Core.Path.{_≡_, ap, _∙_}
 use Prim.Native.Nat.{ℕ, _+_, _-_, _*_, _/_, _%_, _^_, _≤_, _<_}
+use mathlib.Core.Path.{_≡_, ap, _∙_}
 use native.Mathlib.Nat.{mul-mul-mul-comm, mul-right-comm, mul-le-mul}
 use native.Mathlib.Omega.{arith}
 use borrow.Author.Needs.{needs}

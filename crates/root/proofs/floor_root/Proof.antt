@@ -1,10 +1,10 @@
 -- `root::floor_root` meets its contract. After i turns s is the whole part of the root of the i leading digits to base 4 of m * 2 ^ 54,
 -- rem is what those digits have above s * s, and rest holds the digits that are left, at the top of 54 places. Assumes nothing.
-use mathlib.Core.Path.{_≡_, sym, ap, _∙_}
 use Prim.Native.Nat.{ℕ, _+_, _-_, _*_, _/_, _%_, _^_, _≤_, _<_}
+use mathlib.Core.Path.{_≡_, sym, ap, _∙_}
+use mathlib.Core.Logic.{⊎-elim}
 use native.Mathlib.Nat.{mul-assoc, mul-comm, mul-left-comm, mul-lt-mul-of-pos-right}
 use native.Mathlib.Omega.{arith}
-use mathlib.Core.Logic.{⊎-elim}
 use lib.Pow.{pow-pos, pow-mono, pow-add}
 use Rattle.root.specs.Root.{floorRoot}
 use Rattle.root.proofs.Floor.{square-next, floor-above, floorRoot-is}

@@ -1,7 +1,7 @@
 -- `root::guess` is safe: no pattern in it is a NaN's, and the cast is in range by the two tests. Assumes nothing.
+use Prim.Native.Nat.{_-_, _*_, _/_, _^_, _<_}
 use mathlib.Core.Path.{sym, subst}
 use mathlib.Core.Logic.{⊎-elim}
-use Prim.Native.Nat.{_-_, _*_, _/_, _^_, _<_}
 use native.Mathlib.Omega.{arith}
 use lib.Dec.{T}
 use lib.Ieee.{ofBits, neg}

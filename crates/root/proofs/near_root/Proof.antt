@@ -1,12 +1,12 @@
 -- `root::near_root` meets its contract. Assumes nothing.
+use Prim.Native.Nat.{_+_, _-_, _*_, _^_}
 use mathlib.Core.Path.{_≡_, ap, subst, _∙_}
-use Prim.Native.Nat.{ℕ, _+_, _-_, _*_, _^_, _<_}
 use native.Mathlib.Nat.{lt-of-le-of-lt, le-of-eq, mul-lt-mul-of-pos-right}
 use lib.Pow.{pow-pos}
+use borrow.Author.Needs.{needs}
 use Rattle.root.specs.Root.{floorRoot}
 use Rattle.root.specs.Remainder.{Remains}
 use Rattle.root.specs.declared.Remainder.{Remainder}
-use borrow.Author.Needs.{needs}
 use Rattle.root.proofs.near_root.Statement.{statement}
 use Rattle.root.proofs.near_root.Tie as tie
 

@@ -1,9 +1,9 @@
 -- `root::packed` meets its contract: m takes up the odd factor of two, so that an even power of two is left. Assumes nothing.
-use mathlib.Core.Path.{_≡_, sym, ap, _∙_}
 use Prim.Native.Nat.{ℕ, _+_, _*_, _/_, _%_, _^_, _≤_, _<_}
+use mathlib.Core.Path.{_≡_, sym, ap, _∙_}
+use mathlib.Core.Logic.{⊎-elim}
 use native.Mathlib.Nat.{mul-assoc, mul-le-mul-right, mul-lt-mul-of-pos-right}
 use native.Mathlib.Omega.{arith}
-use mathlib.Core.Logic.{⊎-elim}
 use lib.Pow.{pow-pos}
 use borrow.Author.Needs.{needs}
 use Rattle.root.specs.Root.{floorRoot, rootBits}

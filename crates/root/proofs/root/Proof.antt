@@ -1,7 +1,7 @@
 -- `root::root` meets its contract. The tests tell the kinds of x apart, and a positive finite x goes by its pattern. Assumes nothing.
+use Prim.Native.Nat.{ℕ, zero, suc, _*_, _^_, _≤_, _<_}
 use mathlib.Core.Path.{_≡_, refl, sym, ap, _∙_, subst}
 use mathlib.Core.Bool.{Bool, true, false, not, _&&_, _||_, Bool·beq}
-use Prim.Native.Nat.{ℕ, zero, suc, _*_, _/_, _%_, _^_, _≤_, _<_}
 use native.Mathlib.Nat.{mul-one, zero-mul, mul-pos, zero-lt-suc, lt-irrefl, lt-of-lt-of-le}
 use native.Mathlib.Omega.{arith}
 use lib.Dec.{T, eqb}

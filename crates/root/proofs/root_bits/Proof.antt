@@ -1,13 +1,13 @@
 -- `root::root_bits` meets its contract: a subnormal's leading digit is brought to its place first. Assumes nothing.
-use mathlib.Core.Path.{_≡_, sym, ap, _∙_}
 use Prim.Native.Nat.{ℕ, suc, _+_, _-_, _*_, _/_, _%_, _^_, _≤_, _<_}
+use mathlib.Core.Path.{_≡_, sym, ap, _∙_}
 use native.Mathlib.Nat.{le-trans, le-of-eq, lt-of-lt-of-le, lt-of-not-le, not-le-of-lt, mul-le-mul-right, mul-lt-mul-of-pos-right, mod-eq-of-lt}
 use native.Mathlib.Omega.{arith}
 use lib.Pow.{pow-add, pow-pos, pow-mono}
 use lib.Count.{leadingZeros, leading-top}
 use borrow.Author.Needs.{needs}
-use Rattle.root.specs.Root.{rootBits}
 use Rattle.floats.proofs.Patterns.{units-low, units-high}
+use Rattle.root.specs.Root.{rootBits}
 use Rattle.root.proofs.Floor.{shifted}
 use Rattle.root.proofs.root_bits.Statement.{statement}
 use Rattle.root.proofs.root_bits.Tie as tie

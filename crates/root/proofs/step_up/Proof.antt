@@ -1,7 +1,7 @@
 -- `root::step_up` meets its contract. rem is what the number has above the square of s, and falls at each step. Assumes nothing.
-use mathlib.Core.Path.{_≡_, refl, sym}
 use Prim.Native.Nat.{ℕ, _+_, _-_, _*_, _^_, _≤_, _<_}
-use native.Mathlib.Nat.{le-trans, le-of-eq, lt-of-not-le, not-le-of-lt, lt-of-le-of-lt, le-add-right}
+use mathlib.Core.Path.{_≡_, refl, sym}
+use native.Mathlib.Nat.{le-trans, le-of-eq, lt-of-not-le, not-le-of-lt, le-add-right}
 use native.Mathlib.Omega.{arith}
 use borrow.Author.Needs.{needs}
 use Rattle.root.specs.Root.{floorRoot}

@@ -1,7 +1,7 @@
 -- `fdlibm::e_acos::acos` meets its contract. Assumes nothing.
+use borrow.Author.Needs.{needs}
 use Rattle.floats.proofs.Tests.{tests}
 use Rattle.fdlibm.specs.Acos.{acosOf}
-use borrow.Author.Needs.{needs}
 use Rattle.fdlibm.proofs.e_acos.acos.Statement.{statement}
 use Rattle.fdlibm.proofs.e_acos.acos.Tie as tie
 
@@ -19,15 +19,40 @@ int-lt-requires c κs = search needs
 
 returns : tie.Need-returns
 unfolding acosOf
-returns c = search (tests, c .if3 .taken, ← c .before .int-lt .ensures, c .before .before .if2 .taken, ← c .before .before .before .words-are .ensures, ← c .before .before .before .before .low-word .ensures, ← c .before .before .before .before .before .before .high-word .ensures)
+returns c =
+    search (
+      tests,
+      c .if3 .taken,
+      ← c .before .int-lt .ensures,
+      c .before .before .if2 .taken,
+      ← c .before .before .before .words-are .ensures,
+      ← c .before .before .before .before .low-word .ensures,
+      ← c .before .before .before .before .before .before .high-word .ensures,
+    )
 
 returns-2 : tie.Need-returns-2
 unfolding acosOf
-returns-2 c = search (tests, c .if3 .left, ← c .before .int-lt .ensures, c .before .before .if2 .taken, ← c .before .before .before .words-are .ensures, ← c .before .before .before .before .low-word .ensures, ← c .before .before .before .before .before .before .high-word .ensures)
+returns-2 c =
+    search (
+      tests,
+      c .if3 .left,
+      ← c .before .int-lt .ensures,
+      c .before .before .if2 .taken,
+      ← c .before .before .before .words-are .ensures,
+      ← c .before .before .before .before .low-word .ensures,
+      ← c .before .before .before .before .before .before .high-word .ensures,
+    )
 
 returns-3 : tie.Need-returns-3
 unfolding acosOf
-returns-3 c = search (tests, c .if2 .left, ← c .before .words-are .ensures, ← c .before .before .low-word .ensures, ← c .before .before .before .before .high-word .ensures)
+returns-3 c =
+    search (
+      tests,
+      c .if2 .left,
+      ← c .before .words-are .ensures,
+      ← c .before .before .low-word .ensures,
+      ← c .before .before .before .before .high-word .ensures,
+    )
 
 returns-4 : tie.Need-returns-4
 unfolding acosOf
@@ -48,14 +73,28 @@ acos-below-requires c κs = search needs
 
 returns-6 : tie.Need-returns-6
 unfolding acosOf
-returns-6 c = search (tests, c .acos-below .ensures, c .before .if6 .taken, ← c .before .before .int-lt2 .ensures, ← c .before .before .before .before .before .high-word .ensures)
+returns-6 c =
+    search (
+      tests,
+      c .acos-below .ensures,
+      c .before .if6 .taken,
+      ← c .before .before .int-lt2 .ensures,
+      ← c .before .before .before .before .before .high-word .ensures,
+    )
 
 acos-above-requires : tie.Need-acos-above-requires
 acos-above-requires c κs = search needs
 
 returns-7 : tie.Need-returns-7
 unfolding acosOf
-returns-7 c = search (tests, c .acos-above .ensures, c .before .if6 .left, ← c .before .before .int-lt2 .ensures, ← c .before .before .before .before .before .high-word .ensures)
+returns-7 c =
+    search (
+      tests,
+      c .acos-above .ensures,
+      c .before .if6 .left,
+      ← c .before .before .int-lt2 .ensures,
+      ← c .before .before .before .before .before .high-word .ensures,
+    )
 
 pub acos-spec : {M : Type 1} → statement M
 acos-spec =

@@ -1,6 +1,6 @@
 -- `fdlibm::e_acos::acos_above` meets its contract. Assumes nothing.
-use Rattle.fdlibm.specs.Acos.{acosAbove}
 use borrow.Author.Needs.{needs}
+use Rattle.fdlibm.specs.Acos.{acosAbove}
 use Rattle.fdlibm.proofs.e_acos.acos_above.Statement.{statement}
 use Rattle.fdlibm.proofs.e_acos.acos_above.Tie as tie
 

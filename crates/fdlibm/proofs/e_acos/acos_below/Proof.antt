@@ -1,6 +1,6 @@
 -- `fdlibm::e_acos::acos_below` meets its contract. Assumes nothing.
-use Rattle.fdlibm.specs.Acos.{acosBelow}
 use borrow.Author.Needs.{needs}
+use Rattle.fdlibm.specs.Acos.{acosBelow}
 use Rattle.fdlibm.proofs.e_acos.acos_below.Statement.{statement}
 use Rattle.fdlibm.proofs.e_acos.acos_below.Tie as tie
 

@@ -1,6 +1,6 @@
 -- `fdlibm::e_acosh::acosh` meets its contract. Assumes nothing.
-use Rattle.fdlibm.specs.Acosh.{acoshOf}
 use borrow.Author.Needs.{needs}
+use Rattle.fdlibm.specs.Acosh.{acoshOf}
 use Rattle.fdlibm.proofs.e_acosh.acosh.Statement.{statement}
 use Rattle.fdlibm.proofs.e_acosh.acosh.Tie as tie
 
@@ -22,14 +22,33 @@ int-le-requires-2 c κs = search needs
 
 returns-2 : tie.Need-returns-2
 unfolding acoshOf
-returns-2 c = search (c .if3 .taken, ← c .before .int-le2 .ensures, c .before .before .if2 .taken, ← c .before .before .before .int-le .ensures, c .before .before .before .before .if1 .left, ← c .before .before .before .before .before .int-lt .ensures, ← c .before .before .before .before .before .before .high-word .ensures)
+returns-2 c =
+    search (
+      c .if3 .taken,
+      ← c .before .int-le2 .ensures,
+      c .before .before .if2 .taken,
+      ← c .before .before .before .int-le .ensures,
+      c .before .before .before .before .if1 .left,
+      ← c .before .before .before .before .before .int-lt .ensures,
+      ← c .before .before .before .before .before .before .high-word .ensures,
+    )
 
 log-requires : tie.Need-log-requires
 log-requires c κs = search needs
 
 returns-3 : tie.Need-returns-3
 unfolding acoshOf
-returns-3 c = search (c .log .ensures, c .before .if3 .left, ← c .before .before .int-le2 .ensures, c .before .before .before .if2 .taken, ← c .before .before .before .before .int-le .ensures, c .before .before .before .before .before .if1 .left, ← c .before .before .before .before .before .before .int-lt .ensures, ← c .before .before .before .before .before .before .before .high-word .ensures)
+returns-3 c =
+    search (
+      c .log .ensures,
+      c .before .if3 .left,
+      ← c .before .before .int-le2 .ensures,
+      c .before .before .before .if2 .taken,
+      ← c .before .before .before .before .int-le .ensures,
+      c .before .before .before .before .before .if1 .left,
+      ← c .before .before .before .before .before .before .int-lt .ensures,
+      ← c .before .before .before .before .before .before .before .high-word .ensures,
+    )
 
 low-word-requires : tie.Need-low-word-requires
 low-word-requires c κs = search needs
@@ -39,7 +58,17 @@ words-are-requires c κs = search needs
 
 returns-4 : tie.Need-returns-4
 unfolding acoshOf
-returns-4 c = search (c .if4 .taken, ← c .before .words-are .ensures, ← c .before .before .low-word .ensures, c .before .before .before .if2 .left, ← c .before .before .before .before .int-le .ensures, c .before .before .before .before .before .if1 .left, ← c .before .before .before .before .before .before .int-lt .ensures, ← c .before .before .before .before .before .before .before .high-word .ensures)
+returns-4 c =
+    search (
+      c .if4 .taken,
+      ← c .before .words-are .ensures,
+      ← c .before .before .low-word .ensures,
+      c .before .before .before .if2 .left,
+      ← c .before .before .before .before .int-le .ensures,
+      c .before .before .before .before .before .if1 .left,
+      ← c .before .before .before .before .before .before .int-lt .ensures,
+      ← c .before .before .before .before .before .before .before .high-word .ensures,
+    )
 
 int-lt-requires-2 : tie.Need-int-lt-requires-2
 int-lt-requires-2 c κs = search needs
@@ -52,7 +81,21 @@ log-requires-2 c κs = search needs
 
 returns-5 : tie.Need-returns-5
 unfolding acoshOf
-returns-5 c = search (c .log2 .ensures, c .before .root .ensures, c .before .before .if5 .taken, ← c .before .before .before .int-lt2 .ensures, c .before .before .before .before .if4 .left, ← c .before .before .before .before .before .words-are .ensures, ← c .before .before .before .before .before .before .low-word .ensures, c .before .before .before .before .before .before .before .if2 .left, ← c .before .before .before .before .before .before .before .before .int-le .ensures, c .before .before .before .before .before .before .before .before .before .if1 .left, ← c .before .before .before .before .before .before .before .before .before .before .int-lt .ensures, ← c .before .before .before .before .before .before .before .before .before .before .before .high-word .ensures)
+returns-5 c =
+    search (
+      c .log2 .ensures,
+      c .before .root .ensures,
+      c .before .before .if5 .taken,
+      ← c .before .before .before .int-lt2 .ensures,
+      c .before .before .before .before .if4 .left,
+      ← c .before .before .before .before .before .words-are .ensures,
+      ← c .before .before .before .before .before .before .low-word .ensures,
+      c .before .before .before .before .before .before .before .if2 .left,
+      ← c .before .before .before .before .before .before .before .before .int-le .ensures,
+      c .before .before .before .before .before .before .before .before .before .if1 .left,
+      ← c .before .before .before .before .before .before .before .before .before .before .int-lt .ensures,
+      ← c .before .before .before .before .before .before .before .before .before .before .before .high-word .ensures,
+    )
 
 root-requires-2 : tie.Need-root-requires-2
 root-requires-2 c κs = search needs
@@ -62,7 +105,21 @@ log1p-requires c κs = search needs
 
 returns-6 : tie.Need-returns-6
 unfolding acoshOf
-returns-6 c = search (c .log1p .ensures, c .before .root2 .ensures, c .before .before .if5 .left, ← c .before .before .before .int-lt2 .ensures, c .before .before .before .before .if4 .left, ← c .before .before .before .before .before .words-are .ensures, ← c .before .before .before .before .before .before .low-word .ensures, c .before .before .before .before .before .before .before .if2 .left, ← c .before .before .before .before .before .before .before .before .int-le .ensures, c .before .before .before .before .before .before .before .before .before .if1 .left, ← c .before .before .before .before .before .before .before .before .before .before .int-lt .ensures, ← c .before .before .before .before .before .before .before .before .before .before .before .high-word .ensures)
+returns-6 c =
+    search (
+      c .log1p .ensures,
+      c .before .root2 .ensures,
+      c .before .before .if5 .left,
+      ← c .before .before .before .int-lt2 .ensures,
+      c .before .before .before .before .if4 .left,
+      ← c .before .before .before .before .before .words-are .ensures,
+      ← c .before .before .before .before .before .before .low-word .ensures,
+      c .before .before .before .before .before .before .before .if2 .left,
+      ← c .before .before .before .before .before .before .before .before .int-le .ensures,
+      c .before .before .before .before .before .before .before .before .before .if1 .left,
+      ← c .before .before .before .before .before .before .before .before .before .before .int-lt .ensures,
+      ← c .before .before .before .before .before .before .before .before .before .before .before .high-word .ensures,
+    )
 
 pub acosh-spec : {M : Type 1} → statement M
 acosh-spec =

@@ -2,10 +2,10 @@
 use mathlib.Core.Path.{_≡_}
 use mathlib.Core.Bool.{false, _&&_}
 use mathlib.Core.Logic.{⊎-elim}
-use borrow.Author.Tests.{le-leb, lt-leb, eq-eqb, ne-eqb}
 use lib.Dec.{leb}
-use Rattle.fdlibm.specs.Log.{logFar}
+use borrow.Author.Tests.{le-leb, lt-leb, eq-eqb, ne-eqb}
 use borrow.Author.Needs.{needs}
+use Rattle.fdlibm.specs.Log.{logFar}
 use Rattle.fdlibm.proofs.e_log.log_far.Statement.{statement}
 use Rattle.fdlibm.proofs.e_log.log_far.Tie as tie
 
@@ -18,7 +18,13 @@ returns c = simp (le-leb _ _ (c .before .before .if1 .taken), c .before .if2 .ta
 
 returns-2 : tie.Need-returns-2
 unfolding logFar
-returns-2 c = simp (le-leb _ _ (c .before .before .if1 .taken), c .before .if2 .taken, ne-eqb _ _ (c .if3 .left), c .before .before .before .dk-of .ensures)
+returns-2 c =
+    simp (
+      le-leb _ _ (c .before .before .if1 .taken),
+      c .before .if2 .taken,
+      ne-eqb _ _ (c .if3 .left),
+      c .before .before .before .dk-of .ensures,
+    )
 
 outside : (c : tie.Joined1) → (leb 0x6147a (c .before .before .args .hx) && leb (c .before .before .args .hx) 0x6b851) ≡ false
 outside c = ⊎-elim (λ w. simp (le-leb _ _ (w .0 .taken), w .1 .left)) (λ w. simp (lt-leb _ _ (w .left))) (c .if1 .came)

@@ -1,7 +1,7 @@
 -- `fdlibm::e_log::log_from` meets its contract. Assumes nothing.
+use borrow.Author.Needs.{needs}
 use Rattle.floats.proofs.Tests.{tests}
 use Rattle.fdlibm.specs.Log.{logFrom}
-use borrow.Author.Needs.{needs}
 use Rattle.fdlibm.proofs.e_log.log_from.Statement.{statement}
 use Rattle.fdlibm.proofs.e_log.log_from.Tie as tie
 
@@ -47,14 +47,32 @@ log-near-requires c κs = search needs
 
 returns-2 : tie.Need-returns-2
 unfolding logFrom
-returns-2 c = search (tests, c .log-near .ensures, c .before .before .of-words .ensures, ← c .before .before .before .low-word .ensures, c .before .before .before .before .if1 .left, ← c .before .before .before .before .before .int-le .ensures, ← c .before .before .before .before .before .before .high-word .ensures)
+returns-2 c =
+    search (
+      tests,
+      c .log-near .ensures,
+      c .before .before .of-words .ensures,
+      ← c .before .before .before .low-word .ensures,
+      c .before .before .before .before .if1 .left,
+      ← c .before .before .before .before .before .int-le .ensures,
+      ← c .before .before .before .before .before .before .high-word .ensures,
+    )
 
 log-far-requires : tie.Need-log-far-requires
 log-far-requires c κs = search needs
 
 returns-3 : tie.Need-returns-3
 unfolding logFrom
-returns-3 c = search (tests, c .log-far .ensures, c .before .before .of-words .ensures, ← c .before .before .before .low-word .ensures, c .before .before .before .before .if1 .left, ← c .before .before .before .before .before .int-le .ensures, ← c .before .before .before .before .before .before .high-word .ensures)
+returns-3 c =
+    search (
+      tests,
+      c .log-far .ensures,
+      c .before .before .of-words .ensures,
+      ← c .before .before .before .low-word .ensures,
+      c .before .before .before .before .if1 .left,
+      ← c .before .before .before .before .before .int-le .ensures,
+      ← c .before .before .before .before .before .before .high-word .ensures,
+    )
 
 pub log-from-spec : {M : Type 1} → statement M
 log-from-spec =

@@ -1,7 +1,7 @@
 -- `fdlibm::e_log::log_near` meets its contract. Assumes nothing.
+use borrow.Author.Needs.{needs}
 use Rattle.floats.proofs.Tests.{tests}
 use Rattle.fdlibm.specs.Log.{logNear}
-use borrow.Author.Needs.{needs}
 use Rattle.fdlibm.proofs.e_log.log_near.Statement.{statement}
 use Rattle.fdlibm.proofs.e_log.log_near.Tie as tie
 

@@ -1,13 +1,13 @@
 -- `fdlibm::ints::dk_of` meets its contract. Assumes nothing.
-use mathlib.Core.Path.{_≡_, ap, _∙_}
 use Prim.Native.Nat.{ℕ, suc, _-_, _<_}
+use mathlib.Core.Path.{_≡_, ap, _∙_}
 use native.Mathlib.Omega.{arith}
-use borrow.Author.Tests.{le-leb, lt-leb}
 use lib.IntN.{pos}
 use lib.Ieee.{binary64, neg, ofInt}
+use borrow.Author.Tests.{le-leb, lt-leb}
+use borrow.Author.Needs.{needs}
 use Rattle.floats.proofs.Integers.{neg-ofInt}
 use Rattle.fdlibm.specs.Ints.{dk}
-use borrow.Author.Needs.{needs}
 use Rattle.fdlibm.proofs.ints.dk_of.Statement.{statement}
 use Rattle.fdlibm.proofs.ints.dk_of.Tie as tie
 

@@ -1,6 +1,6 @@
 -- `fdlibm::ints::int_le` meets its contract. Assumes nothing.
-use Rattle.fdlibm.specs.Ints.{_≤ˢ_}
 use borrow.Author.Needs.{needs}
+use Rattle.fdlibm.specs.Ints.{_≤ˢ_}
 use Rattle.fdlibm.proofs.ints.int_le.Statement.{statement}
 use Rattle.fdlibm.proofs.ints.int_le.Tie as tie
 

@@ -1,6 +1,6 @@
 -- `fdlibm::ints::int_lt` meets its contract. Assumes nothing.
-use Rattle.fdlibm.specs.Ints.{_<ˢ_}
 use borrow.Author.Needs.{needs}
+use Rattle.fdlibm.specs.Ints.{_<ˢ_}
 use Rattle.fdlibm.proofs.ints.int_lt.Statement.{statement}
 use Rattle.fdlibm.proofs.ints.int_lt.Tie as tie
 

@@ -1,7 +1,7 @@
 -- `fdlibm::s_asinh::asinh_size` meets its contract. Assumes nothing.
+use borrow.Author.Needs.{needs}
 use Rattle.floats.proofs.Tests.{tests}
 use Rattle.fdlibm.specs.Asinh.{asinhSize}
-use borrow.Author.Needs.{needs}
 use Rattle.fdlibm.proofs.s_asinh.asinh_size.Statement.{statement}
 use Rattle.fdlibm.proofs.s_asinh.asinh_size.Tie as tie
 
@@ -29,7 +29,14 @@ log-requires-2 c κs = search needs
 
 returns-2 : tie.Need-returns-2
 unfolding asinhSize
-returns-2 c = search (tests, c .log2 .ensures, c .before .root .ensures, c .before .before .abs2 .ensures, ← c .before .before .before .before .before .high-word .ensures)
+returns-2 c =
+    search (
+      tests,
+      c .log2 .ensures,
+      c .before .root .ensures,
+      c .before .before .abs2 .ensures,
+      ← c .before .before .before .before .before .high-word .ensures,
+    )
 
 abs-requires-3 : tie.Need-abs-requires-3
 abs-requires-3 c κs = search needs
@@ -42,7 +49,14 @@ log1p-requires c κs = search needs
 
 returns-3 : tie.Need-returns-3
 unfolding asinhSize
-returns-3 c = search (tests, c .log1p .ensures, c .before .root2 .ensures, c .before .before .abs3 .ensures, ← c .before .before .before .before .before .high-word .ensures)
+returns-3 c =
+    search (
+      tests,
+      c .log1p .ensures,
+      c .before .root2 .ensures,
+      c .before .before .abs3 .ensures,
+      ← c .before .before .before .before .before .high-word .ensures,
+    )
 
 pub asinh-size-spec : {M : Type 1} → statement M
 asinh-size-spec =

@@ -1,7 +1,7 @@
 -- `fdlibm::s_log1p::log1p_scaled` meets its contract. Assumes nothing.
+use borrow.Author.Needs.{needs}
 use Rattle.floats.proofs.Tests.{tests}
 use Rattle.fdlibm.specs.Log1p.{log1pScaled}
-use borrow.Author.Needs.{needs}
 use Rattle.fdlibm.proofs.s_log1p.log1p_scaled.Statement.{statement}
 use Rattle.fdlibm.proofs.s_log1p.log1p_scaled.Tie as tie
 
@@ -25,7 +25,14 @@ log1p-tail-requires c κs = search needs
 
 returns : tie.Need-returns
 unfolding log1pScaled
-returns c = search (tests, c .log1p-tail .ensures, c .before .of-words .ensures, ← c .before .before .before .low-word .ensures, ← c .before .before .before .before .high-word .ensures)
+returns c =
+    search (
+      tests,
+      c .log1p-tail .ensures,
+      c .before .of-words .ensures,
+      ← c .before .before .before .low-word .ensures,
+      ← c .before .before .before .before .high-word .ensures,
+    )
 
 add-log1p-tail : tie.Need-add-log1p-tail
 add-log1p-tail c = search needs
@@ -44,7 +51,14 @@ log1p-tail-requires-2 c κs = search needs
 
 returns-2 : tie.Need-returns-2
 unfolding log1pScaled
-returns-2 c = search (tests, c .log1p-tail2 .ensures, c .before .of-words2 .ensures, ← c .before .before .before .low-word .ensures, ← c .before .before .before .before .high-word .ensures)
+returns-2 c =
+    search (
+      tests,
+      c .log1p-tail2 .ensures,
+      c .before .of-words2 .ensures,
+      ← c .before .before .before .low-word .ensures,
+      ← c .before .before .before .before .high-word .ensures,
+    )
 
 pub log1p-scaled-spec : {M : Type 1} → statement M
 log1p-scaled-spec =

@@ -1,7 +1,7 @@
 -- `fdlibm::s_log1p::log1p_sum` meets its contract. Assumes nothing.
+use borrow.Author.Needs.{needs}
 use Rattle.floats.proofs.Tests.{tests}
 use Rattle.fdlibm.specs.Log1p.{log1pSum}
-use borrow.Author.Needs.{needs}
 use Rattle.fdlibm.proofs.s_log1p.log1p_sum.Statement.{statement}
 use Rattle.fdlibm.proofs.s_log1p.log1p_sum.Tie as tie
 

@@ -1,6 +1,6 @@
 -- `fdlibm::s_log1p::log1p_wide` meets its contract. Assumes nothing.
-use Rattle.fdlibm.specs.Log1p.{log1pWide}
 use borrow.Author.Needs.{needs}
+use Rattle.fdlibm.specs.Log1p.{log1pWide}
 use Rattle.fdlibm.proofs.s_log1p.log1p_wide.Statement.{statement}
 use Rattle.fdlibm.proofs.s_log1p.log1p_wide.Tie as tie
 
@@ -22,14 +22,30 @@ log1p-sum-requires c κs = search needs
 
 returns-2 : tie.Need-returns-2
 unfolding log1pWide
-returns-2 c = search (c .log1p-sum .ensures, c .before .if2 .taken, ← c .before .before .int-lt .ensures, c .before .before .before .if1 .left, ← c .before .before .before .before .int-le .ensures, ← c .before .before .before .before .before .high-word .ensures)
+returns-2 c =
+    search (
+      c .log1p-sum .ensures,
+      c .before .if2 .taken,
+      ← c .before .before .int-lt .ensures,
+      c .before .before .before .if1 .left,
+      ← c .before .before .before .before .int-le .ensures,
+      ← c .before .before .before .before .before .high-word .ensures,
+    )
 
 log1p-scaled-requires : tie.Need-log1p-scaled-requires
 log1p-scaled-requires c κs = search needs
 
 returns-3 : tie.Need-returns-3
 unfolding log1pWide
-returns-3 c = search (c .log1p-scaled .ensures, c .before .if2 .left, ← c .before .before .int-lt .ensures, c .before .before .before .if1 .left, ← c .before .before .before .before .int-le .ensures, ← c .before .before .before .before .before .high-word .ensures)
+returns-3 c =
+    search (
+      c .log1p-scaled .ensures,
+      c .before .if2 .left,
+      ← c .before .before .int-lt .ensures,
+      c .before .before .before .if1 .left,
+      ← c .before .before .before .before .int-le .ensures,
+      ← c .before .before .before .before .before .high-word .ensures,
+    )
 
 pub log1p-wide-spec : {M : Type 1} → statement M
 log1p-wide-spec =
