@@ -1,6 +1,7 @@
 -- Laws on doubles that the crates above cite.
 pub mod Tests
 pub mod Patterns
+pub mod Units
 pub mod Signs
 pub mod Values
 pub mod Magnitude

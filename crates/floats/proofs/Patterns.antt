@@ -1,18 +1,15 @@
--- Bit patterns of doubles: which are a NaN's, where the sign stands, and how many units a positive one counts. Assumes nothing.
+-- Bit patterns of doubles: which are a NaN's, and where the sign stands. Assumes nothing.
 use Prim.Native.Nat.{ℕ, zero, suc, _+_, _-_, _*_, _/_, _%_, _^_, _≤_, _<_}
 use mathlib.Core.Path.{_≡_, refl, sym, ap, _∙_, subst}
 use mathlib.Core.Bool.{Bool, true, false, not, cond}
-use native.Mathlib.Nat.{mul-one, add-comm, mul-div-cancel, mod-eq-of-lt}
+use native.Mathlib.Nat.{mod-eq-of-lt}
 use native.Mathlib.Omega.{arith}
 use lib.Dec.{T, leb, eqb, nleb→lt}
 use lib.IntN.{ℤ}
 use lib.Ieee.{Float, nan, inf, fin, binary64, up, down, odd, fits, isNan, ne, ofFields, ofBits, toBits, nanBits, ones, hid, top}
 use lib.Ieee.Bits.{ofBits-toBits, nanBits-is, nanBits-above}
-use lib.Ieee.Exact.{HasValue, odd-sign}
-use lib.Ieee.Fits.{down-pos}
-use borrow.Author.Tests.{lt-leb, le-leb, eq-eqb, ne-eqb, lt-ltb, le-ltb}
+use borrow.Author.Tests.{eq-eqb, lt-ltb, le-ltb}
 use Rattle.floats.specs.Methods.{absOf, unit, signumOf}
-use Rattle.floats.specs.Units.{count, Plain, unitsAt}
 
 -- ---- NaN
 
@@ -76,7 +73,7 @@ below-sign b p = go (leb (2 ^ 63) b) (nleb→lt (2 ^ 63) b) (by-fields b p)
     go false k p = k tt
 
 -- the pattern of a double whose sign is clear
-unsigned-below : (m : ℕ) (e : ℤ) → T (fits binary64 (fin false m e)) → toBits binary64 (fin false m e) < 2 ^ 63
+pub unsigned-below : (m : ℕ) (e : ℤ) → T (fits binary64 (fin false m e)) → toBits binary64 (fin false m e) < 2 ^ 63
 unsigned-below m e h = below-sign (toBits binary64 (fin false m e)) (subst Unsigned (sym (ofBits-toBits binary64 (fin false m e) h)) (tt))
 
 -- a sign adds 2 ^ 63 to the pattern, and changes nothing of what fits
@@ -119,78 +116,3 @@ signum-set (inf true) f n h = refl
 signum-set (inf false) f n h = absurd (omega arith)
 signum-set (fin true m e) f n h = refl
 signum-set (fin false m e) f n h = absurd (omega (arith, unsigned-below m e f))
-
--- ---- units
-
-pub units-low : (b : ℕ) → b < 2 ^ 52 → unitsAt b ≡ b % 2 ^ 52
-units-low b h = ap (λ (x : Bool). cond x ((b % 2 ^ 52 + 2 ^ 52) * 2 ^ (b / 2 ^ 52 - 1)) (b % 2 ^ 52)) (lt-leb (2 ^ 52) b h)
-
-pub units-high : (b : ℕ) → 2 ^ 52 ≤ b → unitsAt b ≡ (b % 2 ^ 52 + 2 ^ 52) * 2 ^ (b / 2 ^ 52 - 1)
-units-high b h = ap (λ (x : Bool). cond x ((b % 2 ^ 52 + 2 ^ 52) * 2 ^ (b / 2 ^ 52 - 1)) (b % 2 ^ 52)) (le-leb (2 ^ 52) b h)
-
-pub value→count : (x : Float) (n : ℕ) → HasValue x false n (2 ^ 1074) → count x ≡ n
-unfolding count
-value→count nan n v = absurd v
-value→count (inf s) n v = absurd v
-value→count (fin s m e) n v = ap (λ (k : ℕ). k / down e) (v .1) ∙ mul-div-cancel n (down-pos e)
-
--- the units by the two fields
-abbrev fieldUnits : ℕ → ℕ → ℕ
-fieldUnits zero t = t
-fieldUnits (suc x) t = (2 ^ 52 + t) * 2 ^ x
-
-fields-value : (x t : ℕ) → x < 2047 → HasValue (ofFields binary64 false x t) false (fieldUnits x t) (2 ^ 1074)
-unfolding ofFields
-fields-value zero t h = subst (λ (n : ℕ). HasValue (odd 53 false t 0 1074) false n (2 ^ 1074)) (mul-one t) (odd-sign 53 false t 0 1074)
-fields-value (suc x) t h =
-    subst (λ (b : Bool). HasValue (cond b (cond (eqb t 0) (inf false) nan) (odd 53 false (2 ^ 52 + t) x 1074)) false ((2 ^ 52 + t) * 2 ^ x) (2 ^ 1074))
-    (sym (ne-eqb (suc x) 2047 (omega arith)))
-    (odd-sign 53 false (2 ^ 52 + t) x 1074)
-
-units-fields : (b x : ℕ) → b / 2 ^ 52 ≡ x → fieldUnits x (b % 2 ^ 52) ≡ unitsAt b
-units-fields b zero e = sym (units-low b (omega arith))
-units-fields b (suc x) e =
-    let k : b / 2 ^ 52 - 1 ≡ x = omega arith in
-    ap (λ (n : ℕ). n * 2 ^ x) (add-comm (2 ^ 52) (b % 2 ^ 52))
-    ∙ ap (λ (j : ℕ). (b % 2 ^ 52 + 2 ^ 52) * 2 ^ j) (sym k)
-    ∙ sym (units-high b (omega arith))
-
-unsigned-fields : (b : ℕ) → b < 2 ^ 63 → ofBits binary64 b ≡ ofFields binary64 false (b / 2 ^ 52) (b % 2 ^ 52)
-unfolding ofBits
-unsigned-fields b h =
-    ap (λ (s : Bool). ofFields binary64 s (b % 2 ^ 63 / 2 ^ 52) (b % 2 ^ 52)) (lt-leb (2 ^ 63) b h)
-    ∙ ap (λ (n : ℕ). ofFields binary64 false (n / 2 ^ 52) (b % 2 ^ 52)) (mod-eq-of-lt h)
-
--- below the pattern of the infinity
-pub pattern-value : (b : ℕ) → b < 2047 * 2 ^ 52 → HasValue (ofBits binary64 b) false (unitsAt b) (2 ^ 1074)
-pattern-value b h =
-    subst (λ (x : Float). HasValue x false (unitsAt b) (2 ^ 1074)) (sym (unsigned-fields b (omega arith)))
-    (subst (λ (n : ℕ). HasValue (ofFields binary64 false (b / 2 ^ 52) (b % 2 ^ 52)) false n (2 ^ 1074)) (units-fields b (b / 2 ^ 52) refl) (fields-value (b / 2 ^ 52) (b % 2 ^ 52) (omega arith)))
-
--- ---- the pattern of a positive finite double
-
--- what an exponent's field of all ones is not read as
-abbrev Finite : Float → Type 0
-Finite nan = ⊥
-Finite (inf s) = ⊥
-Finite (fin s m e) = Unit {0}
-
-no-finite : (t : ℕ) → Finite (ofFields binary64 false 2047 t) → ⊥
-unfolding ofFields
-no-finite t p = go (eqb t 0) p
-  where
-    go : (c : Bool) → Finite (cond c (inf false) nan) → ⊥
-    go true p = p
-    go false p = p
-
-pub plain-below : (x : Float) → Plain x → toBits binary64 x < 2047 * 2 ^ 52
-plain-below nan p = absurd p
-plain-below (inf s) p = absurd p
-plain-below (fin true m e) p = absurd (subst T (p .0) tt)
-plain-below (fin false m e) p =
-    let b : ℕ = toBits binary64 (fin false m e) in
-    let l : b < 2 ^ 63 = unsigned-below m e (p .1) in
-    let r : ofFields binary64 false (b / 2 ^ 52) (b % 2 ^ 52) ≡ fin false m e = sym (unsigned-fields b l) ∙ ofBits-toBits binary64 (fin false m e) (p .1) in
-    let n : b / 2 ^ 52 ≡ 2047 → ⊥ =
-    λ k. no-finite (b % 2 ^ 52) (subst (λ (y : ℕ). Finite (ofFields binary64 false y (b % 2 ^ 52))) k (subst Finite (sym r) tt)) in
-    omega arith

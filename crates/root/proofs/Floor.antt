@@ -2,7 +2,7 @@
 use Prim.Native.Nat.{ℕ, zero, suc, _+_, _-_, _*_, _/_, _^_, _≤_, _<_}
 use mathlib.Core.Path.{_≡_, refl, sym, ap, _∙_, subst}
 use mathlib.Core.Bool.{Bool, true, false, not, cond}
-use native.Mathlib.Nat.{mul-le-mul, mul-le-mul-right, mul-lt-mul-of-pos-right, le-of-eq, mul-add, mul-comm, mul-assoc, mul-mul-mul-comm, add-mul, pow-succ', mul-div-cancel, lt-of-not-le, lt-of-lt-of-le, le-trans, not-le-of-lt, le-antisymm}
+use native.Mathlib.Nat.{mul-le-mul, mul-le-mul-right, mul-lt-mul-of-pos-right, le-of-eq, mul-add, mul-comm, mul-mul-mul-comm, add-mul, pow-succ', mul-div-cancel, lt-of-not-le, lt-of-lt-of-le, le-trans, not-le-of-lt, le-antisymm}
 use native.Mathlib.Omega.{arith}
 use lib.Dec.{T, leb, leb→le, nleb→lt}
 use lib.Pow.{pow-add, pow-pos, pow-mono}
@@ -82,9 +82,6 @@ four-pow k = go k ∙ sym (pow-add 2 k k)
 
 pub four-pos : (k : ℕ) → 0 < 4 ^ k
 four-pos k = subst (λ (x : ℕ). 0 < x) (sym (four-pow k)) (pow-pos (k + k))
-
-pub shifted : (m a b : ℕ) → m * 2 ^ a * 2 ^ b ≡ m * 2 ^ (a + b)
-shifted m a b = mul-assoc m (2 ^ a) (2 ^ b) ∙ ap (λ (x : ℕ). m * x) (sym (pow-add 2 a b))
 
 over : (n j : ℕ) → 2 ^ j ≤ n → j < size n
 over n j h = lt-of-not-le (λ (g : size n ≤ j). not-le-of-lt (size-lt n) (le-trans (pow-mono g) h))

@@ -1,80 +1,20 @@
 -- `rootOf` gives the nearest double: the theorem `nearest`, for every positive finite double. Assumes nothing.
 use Prim.Native.Nat.{ℕ, zero, suc, _+_, _-_, _*_, _/_, _%_, _^_, _≤_, _<_}
 use mathlib.Core.Path.{_≡_, refl, sym, ap, _∙_, subst}
-use mathlib.Core.Bool.{Bool, true, false, not, _&&_}
+use mathlib.Core.Bool.{Bool, true, false, not}
 use mathlib.Core.Logic.{_⊎_, inl, inr, ⊎-elim}
-use native.Mathlib.Nat.{le-trans, le-of-eq, lt-of-lt-of-le, lt-of-le-of-lt, lt-of-not-le, not-le-of-lt, mul-one, zero-mul, mul-assoc, mul-left-comm, mul-right-comm, mul-mul-mul-comm, mul-le-mul-left, mul-le-mul-right, mul-lt-mul-of-pos-right, le-of-mul-le-mul-right, lt-of-mul-lt-mul-right, mul-pos, add-mul, pow-succ', zero-lt-suc}
+use native.Mathlib.Nat.{le-trans, le-of-eq, lt-of-lt-of-le, lt-of-le-of-lt, lt-of-not-le, not-le-of-lt, zero-mul, mul-assoc, mul-left-comm, mul-mul-mul-comm, mul-le-mul-left, mul-le-mul-right, mul-lt-mul-of-pos-right, le-of-mul-le-mul-right, lt-of-mul-lt-mul-right, mul-pos, add-mul, pow-succ', zero-lt-suc}
 use native.Mathlib.Omega.{arith}
-use lib.Dec.{T, leb, ltb, eqb, leb→le, nleb→lt, ltb→lt, lit<}
-use lib.IntN.{ℤ, pos, negsuc}
-use lib.Pow.{pow-pos, pow-add, pow-mono, pow-lt}
+use lib.Dec.{T, leb, leb→le, nleb→lt}
+use lib.Pow.{pow-pos, pow-add, pow-mono}
 use lib.Ieee.{Float, nan, inf, fin, binary64, up, down, size, fits, ofBits}
 use lib.Ieee.Bits.{ofBits-fits}
 use lib.Ieee.Exact.{HasValue}
-use lib.Ieee.Fits.{and-l, and-r}
 use lib.Ieee.Digits.{size-lt, size-reaches, size-le}
 use Rattle.floats.specs.Units.{count, Plain, unitsAt}
-use Rattle.floats.proofs.Patterns.{units-high, value→count, pattern-value}
+use Rattle.floats.proofs.Units.{units-high, value→count, pattern-value, shifted, significand}
 use Rattle.root.specs.Root.{floorRoot, rootBits, rootOf, NearestRoot}
-use Rattle.root.proofs.Floor.{Floor, floorRoot-floor, floorRoot-lt, below-root, square-le, square-odd, square-next, four-pow, four-pos, shifted, rootBits-at}
-
--- ---- a double is M * 2 ^ j smallest doubles, with M of no more than 53 digits
-
-record Grid (x : Float) : Type 0 where
-  M : ℕ
-  j : ℕ
-  small : M < 2 ^ 53
-  is : HasValue x false (M * 2 ^ j) (2 ^ 1074)
-  limit : M * 2 ^ j < 2 ^ 2098
-
-exponent : (k : ℕ) → 2 ^ suc k ≤ 2 ^ 1074 → suc k ≤ 1074
-exponent k h = go (lt-of-not-le (λ (g : 1075 ≤ suc k). not-le-of-lt (pow-lt {i = 1074} {j = suc k} g) h))
-  where
-    go : suc k < 1075 → suc k ≤ 1074
-    go h = omega arith
-
-grid-value : (s : Bool) (m : ℕ) (e : ℤ) → s ≡ false → down e ≤ 2 ^ 1074 → (j : ℕ) × HasValue (fin s m e) false (m * 2 ^ j) (2 ^ 1074)
-grid-value s m (pos k) h l = (k + 1074, (h, shifted m k 1074 ∙ sym (mul-one (m * 2 ^ (k + 1074)))))
-grid-value s m (negsuc k) h l =
-    let g : suc k ≤ 1074 = exponent k l in
-    let e : 1074 - suc k + suc k ≡ 1074 = omega arith in
-    (1074 - suc k, (h, ap (λ (n : ℕ). n * 2 ^ 1074) (mul-one m) ∙ sym (shifted m (1074 - suc k) (suc k) ∙ ap (λ (n : ℕ). m * 2 ^ n) e)))
-
-within : (m n : ℕ) (e : ℤ) → m * up e * 2 ^ 1074 ≡ n * down e → m * up e < 2 ^ 1024 * down e → n < 2 ^ 2098
-within m n e v h =
-    lt-of-mul-lt-mul-right (down e)
-    (lt-of-le-of-lt (le-of-eq (sym v))
-    (lt-of-lt-of-le (mul-lt-mul-of-pos-right h (pow-pos 1074)) (le-of-eq (mul-right-comm (2 ^ 1024) (down e) (2 ^ 1074)))))
-
-grid : (x : Float) → Plain x → Grid x
-unfolding fits
-grid nan p = absurd p
-grid (inf s) p = absurd p
-grid (fin s zero e) p = record {
-  M = 0;
-  j = 0;
-  small = lit< tt;
-  is = (p .0, ap (λ (n : ℕ). n * 2 ^ 1074) (zero-mul (up e)) ∙ sym (zero-mul (down e)));
-  limit = lit< tt;
-}
-grid (fin s (suc m) e) p =
-    let A = eqb (suc m % 2) 1 in
-    let B = ltb (suc m) (2 ^ 53) in
-    let C = leb (down e) (2 ^ 1074) in
-    let D = ltb (suc m * up e) (2 ^ 1024 * down e) in
-    let v = grid-value s (suc m) e (p .0) (leb→le (down e) (2 ^ 1074) (and-r (A && B) C (and-l (A && B && C) D (p .1)))) in
-    record {
-      M = suc m;
-      j = v .0;
-      small = ltb→lt (suc m) (2 ^ 53) (and-r A B (and-l (A && B) C (and-l (A && B && C) D (p .1))));
-      is = v .1;
-      limit = within (suc m) (suc m * 2 ^ v .0) e (v .1 .1) (ltb→lt (suc m * up e) (2 ^ 1024 * down e) (and-r (A && B && C) D (p .1)));
-    }
-
-pub count-exact : (x : Float) → Plain x → HasValue x false (count x) (2 ^ 1074)
-count-exact x p =
-    let g = grid x p in
-    subst (λ (n : ℕ). HasValue x false n (2 ^ 1074)) (sym (value→count x (g .M * 2 ^ g .j) (g .is))) (g .is)
+use Rattle.root.proofs.Floor.{Floor, floorRoot-floor, floorRoot-lt, below-root, square-le, square-odd, square-next, four-pow, four-pos, rootBits-at}
 
 -- ---- two doubles are at least a step apart
 
@@ -324,7 +264,7 @@ record Result (x : Float) : Type 0 where
 
 result : (x : Float) → Plain x → 0 < count x → Result x
 result x p h =
-    let g = grid x p in
+    let g = significand x p in
     let c : count x ≡ g .M * 2 ^ g .j = value→count x (g .M * 2 ^ g .j) (g .is) in
     let a : ℕ = g .j + 1074 in
     let e : count x * 2 ^ 1074 ≡ g .M * 2 ^ a = ap (λ (n : ℕ). n * 2 ^ 1074) c ∙ shifted (g .M) (g .j) 1074 in
@@ -357,11 +297,11 @@ nearest x p h =
     record {
       is-double = plain-of-value (rootOf x) (R .q * 2 ^ suc (R .k)) (2 ^ 1074) (R .value) (R .double);
       from-above = λ y o l.
-          let g = grid y o in
+          let g = significand y o in
           let d : count y ≡ g .M * 2 ^ g .j = value→count y (g .M * 2 ^ g .j) (g .is) in
           rw (R .under, c, d) (at-above (R .P) (R .k) (R .q) (g .M) (g .j) (R .digits) (g .small) (rw (c, d) at l));
       from-below = λ y o l.
-          let g = grid y o in
+          let g = significand y o in
           let d : count y ≡ g .M * 2 ^ g .j = value→count y (g .M * 2 ^ g .j) (g .is) in
           rw (R .under, c, d) (at-below (R .P) (R .k) (R .q) (g .M) (g .j) (R .digits) (g .small) (rw (d, c) at l));
     }

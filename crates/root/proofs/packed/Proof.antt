@@ -6,8 +6,9 @@ use native.Mathlib.Nat.{mul-assoc, mul-le-mul-right, mul-lt-mul-of-pos-right}
 use native.Mathlib.Omega.{arith}
 use lib.Pow.{pow-pos}
 use borrow.Author.Needs.{needs}
+use Rattle.floats.proofs.Units.{shifted}
 use Rattle.root.specs.Root.{floorRoot, rootBits}
-use Rattle.root.proofs.Floor.{four-pow, shifted, rootBits-at, floorRoot-lt}
+use Rattle.root.proofs.Floor.{four-pow, rootBits-at, floorRoot-lt}
 use Rattle.root.proofs.packed.Statement.{statement}
 use Rattle.root.proofs.packed.Tie as tie
 

@@ -12,7 +12,8 @@ use lib.Ieee.Exact.{HasValue}
 use lib.Ieee.Fits.{up-pos}
 use borrow.Author.Tests.{ltb-true, eqb-true, lt-ltb}
 use Rattle.floats.specs.Units.{count, unitsAt}
-use Rattle.floats.proofs.Patterns.{no-nan-below, plain-below, pattern-value, value→count}
+use Rattle.floats.proofs.Patterns.{no-nan-below}
+use Rattle.floats.proofs.Units.{plain-below, pattern-value, value→count}
 use Rattle.root.specs.Root.{rootBits, rootOf}
 use Rattle.root.proofs.root.Statement.{statement}
 use Rattle.root.proofs.root.Tie as tie

@@ -6,9 +6,8 @@ use native.Mathlib.Omega.{arith}
 use lib.Pow.{pow-add, pow-pos, pow-mono}
 use lib.Count.{leadingZeros, leading-top}
 use borrow.Author.Needs.{needs}
-use Rattle.floats.proofs.Patterns.{units-low, units-high}
+use Rattle.floats.proofs.Units.{units-low, units-high, shifted}
 use Rattle.root.specs.Root.{rootBits}
-use Rattle.root.proofs.Floor.{shifted}
 use Rattle.root.proofs.root_bits.Statement.{statement}
 use Rattle.root.proofs.root_bits.Tie as tie
 
