@@ -11,7 +11,7 @@ count nan = 0
 count (inf s) = 0
 count (fin s m e) = m * up e * 2 ^ 1074 / down e
 
--- x is a double, finite and not negative
+-- x is a double, finite and with its sign clear
 abbrev pub Plain : Float → Type 0
 Plain nan = ⊥
 Plain (inf s) = ⊥

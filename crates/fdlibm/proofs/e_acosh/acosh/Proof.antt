@@ -1,5 +1,9 @@
 -- `fdlibm::e_acosh::acosh` meets its contract. Assumes nothing.
+use mathlib.Core.Path.{_≡_}
+use mathlib.Core.Bool.{false}
 use borrow.Author.Needs.{needs}
+use Rattle.floats.specs.Words.{highWord, lowWord}
+use Rattle.fdlibm.specs.Ints.{_<ˢ_, _≤ˢ_, wordsAre}
 use Rattle.fdlibm.specs.Acosh.{acoshOf}
 use Rattle.fdlibm.proofs.e_acosh.acosh.Statement.{statement}
 use Rattle.fdlibm.proofs.e_acosh.acosh.Tie as tie
@@ -20,6 +24,9 @@ int-le-requires c κs = search needs
 int-le-requires-2 : tie.Need-int-le-requires-2
 int-le-requires-2 c κs = search needs
 
+at-least-one : (c : tie.Else1) → (highWord (c .before .before .before .args .x) <ˢ 0x3ff0_0000) ≡ false
+at-least-one c = search (c .if1 .left, ← c .before .int-lt .ensures, ← c .before .before .high-word .ensures)
+
 returns-2 : tie.Need-returns-2
 unfolding acoshOf
 returns-2 c =
@@ -28,8 +35,7 @@ returns-2 c =
       ← c .before .int-le2 .ensures,
       c .before .before .if2 .taken,
       ← c .before .before .before .int-le .ensures,
-      c .before .before .before .before .if1 .left,
-      ← c .before .before .before .before .before .int-lt .ensures,
+      at-least-one (c .before .before .before .before),
       ← c .before .before .before .before .before .before .high-word .ensures,
     )
 
@@ -45,8 +51,7 @@ returns-3 c =
       ← c .before .before .int-le2 .ensures,
       c .before .before .before .if2 .taken,
       ← c .before .before .before .before .int-le .ensures,
-      c .before .before .before .before .before .if1 .left,
-      ← c .before .before .before .before .before .before .int-lt .ensures,
+      at-least-one (c .before .before .before .before .before),
       ← c .before .before .before .before .before .before .before .high-word .ensures,
     )
 
@@ -56,6 +61,9 @@ low-word-requires c κs = search needs
 words-are-requires : tie.Need-words-are-requires
 words-are-requires c κs = search needs
 
+not-large : (c : tie.Else2) → (0x41b0_0000 ≤ˢ highWord (c .before .before .before .before .before .args .x)) ≡ false
+not-large c = search (c .if2 .left, ← c .before .int-le .ensures, ← c .before .before .before .before .high-word .ensures)
+
 returns-4 : tie.Need-returns-4
 unfolding acoshOf
 returns-4 c =
@@ -63,12 +71,13 @@ returns-4 c =
       c .if4 .taken,
       ← c .before .words-are .ensures,
       ← c .before .before .low-word .ensures,
-      c .before .before .before .if2 .left,
-      ← c .before .before .before .before .int-le .ensures,
-      c .before .before .before .before .before .if1 .left,
-      ← c .before .before .before .before .before .before .int-lt .ensures,
+      not-large (c .before .before .before),
+      at-least-one (c .before .before .before .before .before),
       ← c .before .before .before .before .before .before .before .high-word .ensures,
     )
+
+not-one : (c : tie.Else4) → wordsAre (highWord (c .before .before .before .before .before .before .before .before .args .x)) (lowWord (c .before .before .before .before .before .before .before .before .args .x)) 0x3ff0_0000 ≡ false
+not-one c = search (c .if4 .left, ← c .before .words-are .ensures, ← c .before .before .low-word .ensures, ← c .before .before .before .before .before .before .before .high-word .ensures)
 
 int-lt-requires-2 : tie.Need-int-lt-requires-2
 int-lt-requires-2 c κs = search needs
@@ -87,13 +96,9 @@ returns-5 c =
       c .before .root .ensures,
       c .before .before .if5 .taken,
       ← c .before .before .before .int-lt2 .ensures,
-      c .before .before .before .before .if4 .left,
-      ← c .before .before .before .before .before .words-are .ensures,
-      ← c .before .before .before .before .before .before .low-word .ensures,
-      c .before .before .before .before .before .before .before .if2 .left,
-      ← c .before .before .before .before .before .before .before .before .int-le .ensures,
-      c .before .before .before .before .before .before .before .before .before .if1 .left,
-      ← c .before .before .before .before .before .before .before .before .before .before .int-lt .ensures,
+      not-one (c .before .before .before .before),
+      not-large (c .before .before .before .before .before .before .before),
+      at-least-one (c .before .before .before .before .before .before .before .before .before),
       ← c .before .before .before .before .before .before .before .before .before .before .before .high-word .ensures,
     )
 
@@ -111,13 +116,9 @@ returns-6 c =
       c .before .root2 .ensures,
       c .before .before .if5 .left,
       ← c .before .before .before .int-lt2 .ensures,
-      c .before .before .before .before .if4 .left,
-      ← c .before .before .before .before .before .words-are .ensures,
-      ← c .before .before .before .before .before .before .low-word .ensures,
-      c .before .before .before .before .before .before .before .if2 .left,
-      ← c .before .before .before .before .before .before .before .before .int-le .ensures,
-      c .before .before .before .before .before .before .before .before .before .if1 .left,
-      ← c .before .before .before .before .before .before .before .before .before .before .int-lt .ensures,
+      not-one (c .before .before .before .before),
+      not-large (c .before .before .before .before .before .before .before),
+      at-least-one (c .before .before .before .before .before .before .before .before .before),
       ← c .before .before .before .before .before .before .before .before .before .before .before .high-word .ensures,
     )
 
