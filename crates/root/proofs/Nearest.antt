@@ -123,7 +123,7 @@ scaled M a p s h =
     plus : (d : ℕ) → d + 1 ≡ suc d
     plus d = omega arith
 
--- ---- the result, and how many smallest doubles it is
+-- ---- the result, and how many units it is
 
 -- a significand q of 53 digits, or 2 ^ 53, after the exponent's field
 units-of : (q k : ℕ) → 2 ^ 52 ≤ q → q ≤ 2 ^ 53 → unitsAt ((k + 1) * 2 ^ 52 + q) ≡ q * 2 ^ suc k
