@@ -1,6 +1,6 @@
 -- Doubles whose value is an integer of bounded size, and their negation, products, sums and differences: exact below 2 ^ 53. Assumes nothing.
 use Prim.Native.Nat.{ℕ, _+_, _-_, _*_, _^_, _≤_, _<_, zero-le}
-use mathlib.Core.Path.{_≡_, refl, sym, ap, _∙_, subst, subst₂, ap₂}
+use mathlib.Core.Path.{_≡_, sym, ap, _∙_, subst, subst₂, ap₂}
 use mathlib.Core.Logic.{_⊎_, inl, inr}
 use mathlib.Core.Bool.{Bool, true, false, not, cond}
 use native.Mathlib.Nat.{le-trans, le-of-eq, le-refl, lt-of-le-of-lt, add-mul, mul-sub, mul-one, mul-zero, mul-comm, mul-assoc, mul-mul-mul-comm, mul-pos, mul-le-mul, mul-le-mul-left, le-of-mul-le-mul-right, lt-of-mul-lt-mul-right, add-le-add, zero-mul, eq-zero-or-pos}
@@ -90,79 +90,6 @@ mul-zero-exactly (fin u m e) (fin v n d) t k p q =
     round-zero (unlike u v) (m * up e * (n * up d)) (down e * down d) (mul-pos (down-pos e) (down-pos d))
     (ap (λ (w : ℕ). m * up e * w) (nothing (n * up d) d (q .1)) ∙ mul-zero (m * up e))
 
-sub-mul : (a b c : ℕ) → (a - b) * c ≡ a * c - b * c
-sub-mul a b c = mul-comm (a - b) c ∙ mul-sub c a b ∙ ap₂ _-_ (mul-comm c a) (mul-comm c b)
-
--- ---- sums, of two sizes a and b over a common denominator c
-sum-val : (s : Bool) (a : ℕ) (t : Bool) (b c : ℕ) → 0 < c → a + b < 2 ^ 53 → Exactly (sum binary64 s (a * c) t (b * c) c) (signed s a +ℤ signed t b) (a + b)
-unfolding sum
-sum-val false a false b c cp h = record {
-  s = false;
-  a = a + b;
-  val = round-int false (a * c + b * c) c (a + b) cp (sym (add-mul a b c)) h;
-  is = refl;
-  le = le-refl (a + b);
-}
-sum-val true a true b c cp h = record {
-  s = true;
-  a = a + b;
-  val = round-int true (a * c + b * c) c (a + b) cp (sym (add-mul a b c)) h;
-  is = signed-add true a b;
-  le = le-refl (a + b);
-}
-sum-val false a true b c cp h =
-    go (ltb (a * c) (b * c)) (λ p. lt-of-mul-lt-mul-right c (ltb→lt (a * c) (b * c) p)) (λ p. le-of-mul-le-mul-right (nltb→le (a * c) (b * c) p) cp)
-  where
-    go : (u : Bool) → (T u → a < b) → (T (not u) → b ≤ a)
-        → Exactly (cond u (round binary64 true (b * c - a * c) c) (round binary64 false (a * c - b * c) c)) (pos a +ℤ negℤ (pos b)) (a + b)
-    go true p q = record {
-      s = true;
-      a = b - a;
-      val = round-int true (b * c - a * c) c (b - a) cp (sym (sub-mul b a c)) (omega arith);
-      is = below-zero a b (p tt);
-      le = omega arith;
-    }
-    go false p q = record {
-      s = false;
-      a = a - b;
-      val = round-int false (a * c - b * c) c (a - b) cp (sym (sub-mul a b c)) (omega arith);
-      is = down-to a b (q tt);
-      le = omega arith;
-    }
-sum-val true a false b c cp h =
-    go (ltb (a * c) (b * c)) (ltb (b * c) (a * c))
-    (λ p. lt-of-mul-lt-mul-right c (ltb→lt (a * c) (b * c) p))
-    (λ p. lt-of-mul-lt-mul-right c (ltb→lt (b * c) (a * c) p))
-    (λ p. le-of-mul-le-mul-right (nltb→le (b * c) (a * c) p) cp)
-    (λ p. le-of-mul-le-mul-right (nltb→le (a * c) (b * c) p) cp)
-  where
-    level : (x y : ℕ) → x ≤ y → y ≤ x → x - y ≡ y - x
-    level x y p q = omega arith
-
-    go : (u v : Bool) → (T u → a < b) → (T v → b < a) → (T (not v) → a ≤ b) → (T (not u) → b ≤ a)
-        → Exactly (cond u (round binary64 false (b * c - a * c) c) (round binary64 v (a * c - b * c) c)) (negℤ (pos a) +ℤ pos b) (a + b)
-    go true v p q r w = let l : a < b = p tt in record {
-      s = false;
-      a = b - a;
-      val = round-int false (b * c - a * c) c (b - a) cp (sym (sub-mul b a c)) (omega arith);
-      is = flip a b (pos (b - a)) (down-to b a (omega arith));
-      le = omega arith;
-    }
-    go false true p q r w = record {
-      s = true;
-      a = a - b;
-      val = round-int true (a * c - b * c) c (a - b) cp (sym (sub-mul a b c)) (omega arith);
-      is = flip a b (negℤ (pos (a - b))) (below-zero b a (q tt));
-      le = omega arith;
-    }
-    go false false p q r w = record {
-      s = false;
-      a = a - b;
-      val = round-int false (a * c - b * c) c (a - b) cp (sym (sub-mul a b c)) (omega arith);
-      is = flip a b (pos (a - b)) (ap pos (level a b (r tt) (w tt)) ∙ down-to b a (r tt));
-      le = omega arith;
-    }
-
 pub mul-exactly : (x y : Float) (z w : ℤ) (b c k l : ℕ) → b * c < 2 ^ 53 → Mag x k → Mag y l → (b < 2 ^ 53 → Exactly x z b) → (c < 2 ^ 53 → Exactly y w c) → Exactly (mul binary64 x y) (z *ℤ w) (b * c)
 mul-exactly x y z w b c k l h mx my p q = go (eq-zero-or-pos b) (eq-zero-or-pos c)
   where
@@ -204,6 +131,59 @@ mul-exactly x y z w b c k l h mx my p q = go (eq-zero-or-pos b) (eq-zero-or-pos 
     go (inl e) r = first (subst (λ (n : ℕ). Exactly x z n) e (p (subst (λ (n : ℕ). n < 2 ^ 53) (sym e) (pow-pos 53))))
     go (inr bp) (inl e) = second (subst (λ (n : ℕ). Exactly y w n) e (q (subst (λ (n : ℕ). n < 2 ^ 53) (sym e) (pow-pos 53))))
     go (inr bp) (inr cp) = both (p (left cp)) (q (right bp))
+
+-- ---- sums, of two sizes a and b over a common denominator c, and differences
+
+sub-mul : (a b c : ℕ) → (a - b) * c ≡ a * c - b * c
+sub-mul a b c = mul-comm (a - b) c ∙ mul-sub c a b ∙ ap₂ _-_ (mul-comm c a) (mul-comm c b)
+
+alike : (s : Bool) (a b c : ℕ) → 0 < c → a + b < 2 ^ 53 → Exactly (round binary64 s (a * c + b * c) c) (signed s a +ℤ signed s b) (a + b)
+alike s a b c cp h = record {
+  s = s;
+  a = a + b;
+  val = round-int s (a * c + b * c) c (a + b) cp (sym (add-mul a b c)) h;
+  is = signed-add s a b;
+  le = le-refl (a + b);
+}
+
+apart : (s : Bool) (a b c n : ℕ) (z : ℤ) → 0 < c → a ≤ n → n < 2 ^ 53 → signed s (a - b) ≡ z → Exactly (round binary64 s (a * c - b * c) c) z n
+apart s a b c n z cp l h e = record {
+  s = s;
+  a = a - b;
+  val = round-int s (a * c - b * c) c (a - b) cp (sym (sub-mul a b c)) (omega arith);
+  is = e;
+  le = omega arith;
+}
+
+sum-val : (s : Bool) (a : ℕ) (t : Bool) (b c : ℕ) → 0 < c → a + b < 2 ^ 53 → Exactly (sum binary64 s (a * c) t (b * c) c) (signed s a +ℤ signed t b) (a + b)
+unfolding sum
+sum-val false a false b c cp h = alike false a b c cp h
+sum-val true a true b c cp h = alike true a b c cp h
+sum-val false a true b c cp h =
+    go (ltb (a * c) (b * c)) (λ p. lt-of-mul-lt-mul-right c (ltb→lt (a * c) (b * c) p)) (λ p. le-of-mul-le-mul-right (nltb→le (a * c) (b * c) p) cp)
+  where
+    go : (u : Bool) → (T u → a < b) → (T (not u) → b ≤ a)
+        → Exactly (cond u (round binary64 true (b * c - a * c) c) (round binary64 false (a * c - b * c) c)) (pos a +ℤ negℤ (pos b)) (a + b)
+    go true p q = apart true b a c (a + b) (pos a +ℤ negℤ (pos b)) cp (omega arith) h (below-zero a b (p tt))
+    go false p q = apart false a b c (a + b) (pos a +ℤ negℤ (pos b)) cp (omega arith) h (down-to a b (q tt))
+sum-val true a false b c cp h =
+    go (ltb (a * c) (b * c)) (ltb (b * c) (a * c))
+    (λ p. lt-of-mul-lt-mul-right c (ltb→lt (a * c) (b * c) p))
+    (λ p. lt-of-mul-lt-mul-right c (ltb→lt (b * c) (a * c) p))
+    (λ p. le-of-mul-le-mul-right (nltb→le (b * c) (a * c) p) cp)
+    (λ p. le-of-mul-le-mul-right (nltb→le (a * c) (b * c) p) cp)
+  where
+    level : (x y : ℕ) → x ≤ y → y ≤ x → x - y ≡ y - x
+    level x y p q = omega arith
+
+    go : (u v : Bool) → (T u → a < b) → (T v → b < a) → (T (not v) → a ≤ b) → (T (not u) → b ≤ a)
+        → Exactly (cond u (round binary64 false (b * c - a * c) c) (round binary64 v (a * c - b * c) c)) (negℤ (pos a) +ℤ pos b) (a + b)
+    go true v p q r w =
+        let l : a < b = p tt in
+        apart false b a c (a + b) (negℤ (pos a) +ℤ pos b) cp (omega arith) h (flip a b (pos (b - a)) (down-to b a (omega arith)))
+    go false true p q r w = apart true a b c (a + b) (negℤ (pos a) +ℤ pos b) cp (omega arith) h (flip a b (negℤ (pos (a - b))) (below-zero b a (q tt)))
+    go false false p q r w =
+        apart false a b c (a + b) (negℤ (pos a) +ℤ pos b) cp (omega arith) h (flip a b (pos (a - b)) (ap pos (level a b (r tt) (w tt)) ∙ down-to b a (r tt)))
 
 add-val : (x y : Float) (s t : Bool) (a b : ℕ) → a + b < 2 ^ 53 → HasValue x s a 1 → HasValue y t b 1 → Exactly (add binary64 x y) (signed s a +ℤ signed t b) (a + b)
 unfolding add

@@ -9,7 +9,7 @@ use lib.IntN.{ℤ}
 use lib.Ieee.{Float, nan, inf, fin, binary64, up, down, odd, fits, isNan, ne, ofFields, ofBits, toBits, nanBits, ones, hid, top}
 use lib.Ieee.Bits.{ofBits-toBits, nanBits-is, nanBits-above}
 use borrow.Author.Tests.{eq-eqb, lt-ltb, le-ltb}
-use Rattle.floats.specs.Methods.{absOf, unit, signumOf}
+use Rattle.floats.specs.Methods.{absOf, signedOne, signumOf}
 
 -- ---- NaN
 
@@ -101,7 +101,7 @@ abs-pattern (fin true m e) h =
     dropped b t e h = omega arith
 
 -- the sign of a double that is no NaN, by its pattern
-pub signum-clear : (x : Float) → isNan x ≡ false → toBits binary64 x < 2 ^ 63 → unit false ≡ signumOf x
+pub signum-clear : (x : Float) → isNan x ≡ false → toBits binary64 x < 2 ^ 63 → signedOne false ≡ signumOf x
 unfolding isNan signumOf toBits
 signum-clear nan n h = absurd (subst T n tt)
 signum-clear (inf true) n h = absurd (omega arith)
@@ -109,7 +109,7 @@ signum-clear (inf false) n h = refl
 signum-clear (fin true m e) n h = absurd (omega (arith, sign-adds m e))
 signum-clear (fin false m e) n h = refl
 
-pub signum-set : (x : Float) → T (fits binary64 x) → isNan x ≡ false → 2 ^ 63 ≤ toBits binary64 x → unit true ≡ signumOf x
+pub signum-set : (x : Float) → T (fits binary64 x) → isNan x ≡ false → 2 ^ 63 ≤ toBits binary64 x → signedOne true ≡ signumOf x
 unfolding isNan signumOf toBits
 signum-set nan f n h = absurd (subst T n tt)
 signum-set (inf true) f n h = refl

@@ -9,15 +9,15 @@ absOf nan = nan
 absOf (inf s) = inf false
 absOf (fin s m e) = fin false m e
 
--- 1.0, or -1.0 where the sign s is set
-abbrev pub unit : Bool → Float
-unit s = cond s (neg one) one
+-- 1.0 with the sign s
+abbrev pub signedOne : Bool → Float
+signedOne s = cond s (neg one) one
 
 -- 1.0 with the sign of x, that of a zero too; NaN for NaN
 unfoldable pub signumOf : Float → Float
 signumOf nan = nan
-signumOf (inf s) = unit s
-signumOf (fin s m e) = unit s
+signumOf (inf s) = signedOne s
+signumOf (fin s m e) = signedOne s
 
 -- x between -1.0 and 1.0; NaN stays
 unfoldable pub clampUnitOf : Float → Float

@@ -10,7 +10,7 @@ abbrev pub signed : Bool → ℕ → ℤ
 signed false n = pos n
 signed true n = negℤ (pos n)
 
--- x is finite and its value is the fraction z / c: ±m * 2 ^ e * c = z, where 2 ^ e is up e / down e
+-- x is finite and its value is the fraction z / c, for a c above 0: ±m * 2 ^ e * c = z, where 2 ^ e is up e / down e
 abbrev pub IsRatio : Float → ℤ → ℕ → Type 0
 IsRatio nan z c = ⊥
 IsRatio (inf s) z c = ⊥

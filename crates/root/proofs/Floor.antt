@@ -19,7 +19,7 @@ Floor n s = (s * s ≤ n) × (n < (s + 1) * (s + 1))
 pub square-sum : (a b : ℕ) → (a + b) * (a + b) ≡ a * a + 2 * (a * b) + b * b
 square-sum a b = omega (arith, mul-add (a + b) a b, add-mul a b a, add-mul a b b, mul-comm b a)
 
-square-double : (r : ℕ) → (2 * r) * (2 * r) ≡ 4 * (r * r)
+pub square-double : (r : ℕ) → (2 * r) * (2 * r) ≡ 4 * (r * r)
 square-double r = mul-mul-mul-comm 2 r 2 r
 
 pub square-odd : (r : ℕ) → (2 * r + 1) * (2 * r + 1) ≡ 4 * (r * r) + 4 * r + 1

@@ -7,7 +7,7 @@ use native.Mathlib.Nat.{mul-assoc, mul-comm, mul-left-comm, mul-lt-mul-of-pos-ri
 use native.Mathlib.Omega.{arith}
 use lib.Pow.{pow-pos, pow-mono, pow-add}
 use Rattle.root.specs.Root.{floorRoot}
-use Rattle.root.proofs.Floor.{square-next, floor-above, floorRoot-is}
+use Rattle.root.proofs.Floor.{square-double, square-next, floor-above, floorRoot-is}
 use Rattle.root.proofs.floor_root.Statement.{statement}
 use Rattle.root.proofs.floor_root.Tie as tie
 
@@ -27,7 +27,7 @@ two-more : (i : ℕ) → 2 ^ (i + 1) ≡ 2 * 2 ^ i
 two-more i = pow-add 2 i 1 ∙ mul-comm (2 ^ i) 2
 
 square-even : (s : ℕ) → (s * 2) * (s * 2) ≡ 4 * (s * s)
-square-even s = omega (arith, mul-assoc s 2 (s * 2), mul-left-comm 2 s 2, mul-assoc s s 2, mul-left-comm s 2 s, ap (λ (x : ℕ). s * x) (mul-comm s 2))
+square-even s = ap (λ (x : ℕ). x * x) (mul-comm s 2) ∙ square-double s
 
 taken : (m rest s rem i : ℕ) → Digits m rest s rem i → i < 54 → s * 2 * 2 < rem * 4 + rest / 2 ^ 52
     → Digits m (rest % 2 ^ 52 * 4) (s * 2 + 1) (rem * 4 + rest / 2 ^ 52 - s * 2 * 2 - 1) (i + 1)

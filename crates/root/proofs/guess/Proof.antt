@@ -26,7 +26,7 @@ sub-y0 : tie.Need-sub-y0
 sub-y0 c = omega (arith, low (c .before))
 
 float-from-bits-y0 : tie.Need-float-from-bits-y0
-float-from-bits-y0 c = no-nan-below (6910469410427058089 - c .before .if1 .b / 2) (omega arith)
+float-from-bits-y0 c = no-nan-below (0x5fe6_eb50_c7b5_37a9 - c .before .if1 .b / 2) (omega arith)
 
 truncating-f64-to-u64-requires : tie.Need-truncating-f64-to-u64-requires
 unfolding ofBits neg
