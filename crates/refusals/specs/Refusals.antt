@@ -1,6 +1,8 @@
 -- The number and the place of each refusal, from the table 'Room and refusals' of the scope paper. Definitions only.
 use Prim.Native.Nat.{ℕ}
 use Rattle.refusals.specs.declared.Refusal.{Refusal}
+use Rattle.refusals.specs.declared.Outcome.{Outcome}
+use Rattle.refusals.specs.declared.Outcome.the-variants.{Done, Refused}
 use Rattle.refusals.specs.declared.Refusal.the-variants.{VertexCount, ListLength, VertexTooLarge, RepeatedVertex, ShortRoom, LatticeSize, NotBuilt, LengthCount, EdgeTooLarge, RepeatedEdge, BadIndex, BadInput, TooManyPentachorons}
 
 -- the number of the condition that is broken
@@ -34,3 +36,8 @@ placeOf RepeatedEdge = 0
 placeOf BadIndex = 0
 placeOf BadInput = 0
 placeOf TooManyPentachorons = 0
+
+-- the refusal's number, 0 where the call answered
+abbrev pub outcomeNumber : Outcome → ℕ
+outcomeNumber Done = 0
+outcomeNumber (Refused r) = numberOf r

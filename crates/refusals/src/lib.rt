@@ -1,7 +1,7 @@
 // The refusals of all layers, with the number and the place that the scope paper's table gives each.
 // Nothing else matches on the cases, so that a new one costs this crate alone.
 ghost use mathlib.Core.Path.{_≡_};
-ghost use Rattle.refusals.specs.Refusals.{numberOf, placeOf};
+ghost use Rattle.refusals.specs.Refusals.{numberOf, placeOf, outcomeNumber};
 
 pub enum Refusal {
     // The vertex count is 0 or above 4,096.
@@ -72,6 +72,24 @@ impl Refusal {
             Refusal::BadIndex => 0,
             Refusal::BadInput => 0,
             Refusal::TooManyPentachorons => 0,
+        }
+    }
+}
+
+// What a call says that writes its answer to a lent buffer.
+pub enum Outcome {
+    Done,
+    Refused(Refusal),
+}
+
+impl Outcome {
+    // The refusal's number, 0 where the call answered.
+    pub fn number(self) -> u32
+        ensures { λ r. ⌜ r ≡ outcomeNumber self ⌝ }
+    {
+        match self {
+            Outcome::Done => 0,
+            Outcome::Refused(refusal) => refusal.number(),
         }
     }
 }

@@ -1,0 +1,214 @@
+// Dihedrals by both rules: from three cofactors, from two vertices of a pentachoron, and all ten.
+use fdlibm::acos;
+use fdlibm::acosh;
+use fdlibm::asinh;
+use floats::abs;
+use floats::clamp_unit;
+use floats::signum;
+use geometry::cm_cofactors;
+use geometry::cm_matrix_signed;
+use geometry::cofactor_6x6;
+use refusals::Refusal;
+use root::root;
+ghost use mathlib.Core.Path.{_≡_};
+ghost use Prim.Native.Nat.{_<_};
+ghost use Rattle.floats.specs.Algebra.{doubles};
+ghost use Rattle.geometry.specs.Determinant.{cofactor};
+ghost use Rattle.lorentzian.specs.Dihedral.{kindNumber, kindOf, valueOf, ratioOf, ofRatio, ofMixed, computeDihedral, dihedralByRoot, lorentzianDihedral, dihedralAnswer, refusalOf, dihedralOr, allDihedrals};
+
+// ---- the cases
+
+// Kind of a hinge.
+pub enum HingeType {
+    // Its deficit is 2π less the sum of its angles.
+    Spacelike,
+    // Its deficit is the sum of its boosts, negated.
+    Timelike,
+}
+
+impl HingeType {
+    // 0 for Spacelike, 1 for Timelike.
+    pub fn number(self) -> u8
+        ensures { λ r. ⌜ r ≡ kindNumber self ⌝ }
+    {
+        match self {
+            HingeType::Spacelike => 0,
+            HingeType::Timelike => 1,
+        }
+    }
+}
+
+// A dihedral with its one number. Only `kind` and `value` match on it.
+pub enum Dihedral {
+    Angle(f64),
+    Boost(f64),
+}
+
+impl Dihedral {
+    // Kind of a hinge with this dihedral.
+    pub fn kind(self) -> HingeType
+        ensures { λ r. ⌜ r ≡ kindOf self ⌝ }
+    {
+        match self {
+            Dihedral::Angle(_) => HingeType::Spacelike,
+            Dihedral::Boost(_) => HingeType::Timelike,
+        }
+    }
+
+    // The angle or the boost.
+    pub fn value(self) -> f64
+        ensures { λ r. ⌜ r ≡ valueOf self ⌝ }
+    {
+        match self {
+            Dihedral::Angle(angle) => angle,
+            Dihedral::Boost(boost) => boost,
+        }
+    }
+}
+
+// ---- what both rules share
+
+// Minus c_lm over the root of the product, its sign turned where c_ll is negative.
+fn ratio_of(c_lm: f64, c_ll: f64, denom: f64) -> f64
+    ensures { λ r. ⌜ r ≡ ratioOf «c_lm» «c_ll» denom ⌝ }
+{
+    let sign_corr = if c_ll < 0.0 { -1.0 } else { 1.0 };
+    sign_corr * (-c_lm) / denom
+}
+
+// The dihedral of a ratio, where both cofactors have the same sign.
+fn of_ratio(ratio: f64) -> Dihedral
+    ensures { λ r. ⌜ r ≡ ofRatio ratio ⌝ }
+{
+    if abs(ratio) <= 1.0 + 1e-12 {
+        return Dihedral::Angle(acos(clamp_unit(ratio)));
+    }
+    Dihedral::Boost(signum(ratio) * acosh(abs(ratio)))
+}
+
+// The dihedral where the product is not positive.
+fn of_mixed(c_lm: f64, denom: f64) -> Dihedral
+    ensures { λ r. ⌜ r ≡ ofMixed «c_lm» denom ⌝ }
+{
+    Dihedral::Boost(asinh(-c_lm / denom))
+}
+
+// ---- the first rule
+
+// The dihedral of three cofactors, by the rule that tests the product (lorentzian_regge.rs).
+pub fn compute_dihedral(c_lm: f64, c_ll: f64, c_mm: f64) -> Dihedral
+    ensures { λ r. ⌜ r ≡ computeDihedral «c_lm» «c_ll» «c_mm» ⌝ }
+{
+    let product = c_ll * c_mm;
+    if abs(product) < 1e-60 {
+        return Dihedral::Angle(0.0);
+    }
+    if 0.0 < product {
+        return of_ratio(ratio_of(c_lm, c_ll, root(product)));
+    }
+    of_mixed(c_lm, root(-product))
+}
+
+// ---- the second rule
+
+// The dihedral of three cofactors, by the rule that tests the root (lorentzian.rs).
+fn dihedral_by_root(c_lm: f64, c_ll: f64, c_mm: f64) -> Dihedral
+    ensures { λ r. ⌜ r ≡ dihedralByRoot «c_lm» «c_ll» «c_mm» ⌝ }
+{
+    let product = c_ll * c_mm;
+    if 0.0 < product {
+        let denom = root(product);
+        if denom < 1e-30 {
+            return Dihedral::Angle(0.0);
+        }
+        return of_ratio(ratio_of(c_lm, c_ll, denom));
+    }
+    let denom = root(abs(product));
+    if denom < 1e-30 {
+        return Dihedral::Boost(0.0);
+    }
+    of_mixed(c_lm, denom)
+}
+
+// A dihedral, or why there is none.
+pub enum DihedralAnswer {
+    Done(Dihedral),
+    Refused(Refusal),
+}
+
+impl DihedralAnswer {
+    // The refusal's number, 0 for an answer.
+    pub fn number(self) -> u32
+        ensures { λ r. ⌜ r ≡ refusalOf self ⌝ }
+    {
+        match self {
+            DihedralAnswer::Done(_) => 0,
+            DihedralAnswer::Refused(refusal) => refusal.number(),
+        }
+    }
+
+    // The dihedral, or `other` for a refusal.
+    pub fn dihedral_or(self, other: Dihedral) -> Dihedral
+        ensures { λ r. ⌜ r ≡ dihedralOr self other ⌝ }
+    {
+        match self {
+            DihedralAnswer::Done(dihedral) => dihedral,
+            DihedralAnswer::Refused(_) => other,
+        }
+    }
+}
+
+// The cofactor of a row and a column that the matrix has.
+fn cofactor_at(m: &[[f64; 6]; 6], row: usize, col: usize) -> f64
+    requires { ⌜ (row < 6) × (col < 6) ⌝ }
+    ensures { λ r. ⌜ r ≡ cofactor doubles (now (m .entry)) row col ⌝ }
+{
+    cofactor_6x6(m, row, col).value_or(0.0)
+}
+
+// The dihedral of two of a pentachoron's vertices.
+fn dihedral_at(s: &[f64; 10], l: usize, m: usize) -> Dihedral
+    requires { ⌜ (l < 5) × (m < 5) ⌝ }
+    ensures { λ r. ⌜ r ≡ lorentzianDihedral (now (s .entry)) l m ⌝ }
+{
+    let cm = cm_matrix_signed(s);
+    let c_lm = cofactor_at(&cm, l + 1, m + 1);
+    let c_ll = cofactor_at(&cm, l + 1, l + 1);
+    let c_mm = cofactor_at(&cm, m + 1, m + 1);
+    dihedral_by_root(c_lm, c_ll, c_mm)
+}
+
+// The dihedral at the triangle opposite the edge of the vertices l and m, which are not put in order.
+// Refused with 11 where either is above 4 or they are the same.
+pub fn lorentzian_dihedral(s: &[f64; 10], l: usize, m: usize) -> DihedralAnswer
+    ensures { λ r. ⌜ r ≡ dihedralAnswer (now (s .entry)) l m ⌝ }
+{
+    if 4 < l || 4 < m || l == m {
+        return DihedralAnswer::Refused(Refusal::BadIndex);
+    }
+    DihedralAnswer::Done(dihedral_at(s, l, m))
+}
+
+// The ten dihedrals, of the pairs 01, 02, 03, 04, 12, 13, 14, 23, 24, 34.
+pub fn all_lorentzian_dihedrals(s: &[f64; 10]) -> [Dihedral; 10]
+    ensures { λ r. ⌜ r ≡ allDihedrals (now (s .entry)) ⌝ }
+{
+    let c = cm_cofactors(s);
+    let c00 = c[0];
+    let c11 = c[5];
+    let c22 = c[9];
+    let c33 = c[12];
+    let c44 = c[14];
+    [
+        dihedral_by_root(c[1], c00, c11),
+        dihedral_by_root(c[2], c00, c22),
+        dihedral_by_root(c[3], c00, c33),
+        dihedral_by_root(c[4], c00, c44),
+        dihedral_by_root(c[6], c11, c22),
+        dihedral_by_root(c[7], c11, c33),
+        dihedral_by_root(c[8], c11, c44),
+        dihedral_by_root(c[10], c22, c33),
+        dihedral_by_root(c[11], c22, c44),
+        dihedral_by_root(c[13], c33, c44),
+    ]
+}
