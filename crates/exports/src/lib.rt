@@ -1,5 +1,12 @@
 // The library's functions for C and Rust to call, on numbers and slices alone.
+use geometry::cofactor_6x6;
+use lorentzian::all_lorentzian_dihedrals;
+use lorentzian::lorentzian_dihedral;
 ghost use mathlib.Core.Path.{_≡_};
+ghost use mathlib.Core.List.{map};
+ghost use lib.ListN.{getD};
+ghost use Rattle.refusals.specs.Refusals.{outcomeNumber};
+ghost use Rattle.floats.specs.Algebra.{doubles};
 ghost use Rattle.floats.specs.Methods.{absOf, signumOf, clampUnitOf};
 ghost use Rattle.root.specs.Root.{rootOf};
 ghost use Rattle.fdlibm.specs.Log.{logOf};
@@ -7,6 +14,13 @@ ghost use Rattle.fdlibm.specs.Log1p.{log1pOf};
 ghost use Rattle.fdlibm.specs.Acos.{acosOf};
 ghost use Rattle.fdlibm.specs.Acosh.{acoshOf};
 ghost use Rattle.fdlibm.specs.Asinh.{asinhOf};
+ghost use Rattle.geometry.specs.CayleyMenger.{cm, cofactors};
+ghost use Rattle.geometry.specs.Answer as Cofactor;
+ghost use Rattle.lorentzian.specs.Triangle.{areaSq, areaSqGrad, gradOutcome, gradAfter};
+ghost use Rattle.lorentzian.specs.Dihedral.{kindNumberOf, valueOf, computeDihedral, dihedralAnswer, refusalOf, valueOr, kindOr, allDihedrals};
+ghost use Rattle.lorentzian.specs.Jacobian.{jacobian};
+
+// ---- floats, the root and fdlibm
 
 #[no_mangle]
 pub extern "C" fn cjapthumi_root(x: f64) -> f64
@@ -69,4 +83,129 @@ pub extern "C" fn cjapthumi_clamp_unit(x: f64) -> f64
     ensures { λ r. ⌜ r ≡ clampUnitOf x ⌝ }
 {
     floats::clamp_unit(x)
+}
+
+// ---- geometry
+
+// A refused call returns the refusal's number and changes nothing; an answer returns 0.
+
+#[no_mangle]
+pub extern "C" fn cjapthumi_cofactor_6x6(
+    m: &[[f64; 6]; 6],
+    row: usize,
+    col: usize,
+    value: &mut f64,
+) -> u32
+    ensures { λ r. ⌜
+        (r ≡ Cofactor.refusalOf (Cofactor.cofactorAnswer (now (m .entry)) row col))
+        × (now (value .exit) ≡ Cofactor.valueOr (Cofactor.cofactorAnswer (now (m .entry)) row col) (now (value .entry)))
+        ⌝ }
+{
+    let answer = cofactor_6x6(m, row, col);
+    *value = answer.value_or(*value);
+    answer.number()
+}
+
+#[no_mangle]
+pub extern "C" fn cjapthumi_cm_matrix_signed(s: &[f64; 10], m: &mut [[f64; 6]; 6])
+    ensures { λ r. ⌜ now (m .exit) ≡ cm doubles (now (s .entry)) ⌝ }
+{
+    *m = geometry::cm_matrix_signed(s);
+}
+
+#[no_mangle]
+pub extern "C" fn cjapthumi_cm_cofactors(s: &[f64; 10], c: &mut [f64; 15])
+    ensures { λ r. ⌜ now (c .exit) ≡ cofactors doubles (now (s .entry)) ⌝ }
+{
+    *c = geometry::cm_cofactors(s);
+}
+
+// ---- triangles and dihedrals
+
+#[no_mangle]
+pub extern "C" fn cjapthumi_triangle_area_sq_lorentzian(s01: f64, s02: f64, s12: f64) -> f64
+    ensures { λ r. ⌜ r ≡ areaSq s01 s02 s12 ⌝ }
+{
+    lorentzian::triangle_area_sq_lorentzian(s01, s02, s12)
+}
+
+#[no_mangle]
+pub extern "C" fn cjapthumi_triangle_area_sq_grad(s01: f64, s02: f64, s12: f64, grad: &mut [f64; 3])
+    ensures { λ r. ⌜ now (grad .exit) ≡ areaSqGrad s01 s02 s12 ⌝ }
+{
+    *grad = lorentzian::triangle_area_sq_grad(s01, s02, s12);
+}
+
+#[no_mangle]
+pub extern "C" fn cjapthumi_tri_area_sq_grad_in_pent(
+    s: &[f64; 10],
+    tri: &[usize; 3],
+    grad: &mut [f64; 10],
+) -> u32
+    ensures { λ r. ⌜
+        (r ≡ outcomeNumber (gradOutcome (getD (now (tri .entry)) 0 0) (getD (now (tri .entry)) 1 0) (getD (now (tri .entry)) 2 0)))
+        × (now (grad .exit) ≡ gradAfter (now (s .entry)) (getD (now (tri .entry)) 0 0) (getD (now (tri .entry)) 1 0) (getD (now (tri .entry)) 2 0) (now (grad .entry)))
+        ⌝ }
+{
+    lorentzian::tri_area_sq_grad_in_pent(s, *tri, grad).number()
+}
+
+// The kind is 0 for Spacelike and 1 for Timelike.
+#[no_mangle]
+pub extern "C" fn cjapthumi_compute_dihedral(c_lm: f64, c_ll: f64, c_mm: f64, value: &mut f64) -> u8
+    ensures { λ r. ⌜
+        (r ≡ kindNumberOf (computeDihedral «c_lm» «c_ll» «c_mm»))
+        × (now (value .exit) ≡ valueOf (computeDihedral «c_lm» «c_ll» «c_mm»))
+        ⌝ }
+{
+    let dihedral = lorentzian::compute_dihedral(c_lm, c_ll, c_mm);
+    *value = dihedral.value();
+    dihedral.kind().number()
+}
+
+#[no_mangle]
+pub extern "C" fn cjapthumi_lorentzian_dihedral(
+    s: &[f64; 10],
+    l: usize,
+    m: usize,
+    value: &mut f64,
+    kind: &mut u8,
+) -> u32
+    ensures { λ r. ⌜
+        (r ≡ refusalOf (dihedralAnswer (now (s .entry)) l m))
+        × (now (value .exit) ≡ valueOr (dihedralAnswer (now (s .entry)) l m) (now (value .entry)))
+        × (now (kind .exit) ≡ kindOr (dihedralAnswer (now (s .entry)) l m) (now (kind .entry)))
+        ⌝ }
+{
+    let answer = lorentzian_dihedral(s, l, m);
+    *value = answer.value_or(*value);
+    *kind = answer.kind_or(*kind);
+    answer.number()
+}
+
+#[no_mangle]
+pub extern "C" fn cjapthumi_all_lorentzian_dihedrals(
+    s: &[f64; 10],
+    values: &mut [f64; 10],
+    kinds: &mut [u8; 10],
+)
+    ensures { λ r. ⌜
+        (now (values .exit) ≡ map valueOf (allDihedrals (now (s .entry))))
+        × (now (kinds .exit) ≡ map kindNumberOf (allDihedrals (now (s .entry))))
+        ⌝ }
+{
+    let d = all_lorentzian_dihedrals(s);
+    *values = lorentzian::dihedral_values(d);
+    *kinds = lorentzian::dihedral_kinds(d);
+}
+
+#[no_mangle]
+pub extern "C" fn cjapthumi_all_lorentzian_dihedrals_jacobian(
+    s: &[f64; 10],
+    eps: f64,
+    jac: &mut [f64; 100],
+)
+    ensures { λ r. ⌜ now (jac .exit) ≡ jacobian (now (s .entry)) eps ⌝ }
+{
+    *jac = lorentzian::all_lorentzian_dihedrals_jacobian(s, eps);
 }

@@ -1,7 +1,7 @@
 -- The elements of `table`, and a list that is filled with them from its start. Assumes nothing.
 use Prim.Native.Nat.{ℕ, zero, suc, _<_}
-use mathlib.Core.Path.{_≡_, refl, ap₂}
-use mathlib.Core.List.{List, [], _∷_}
+use mathlib.Core.Path.{_≡_, refl, ap, ap₂}
+use mathlib.Core.List.{List, [], _∷_, map}
 use native.Mathlib.Omega.{arith}
 use lib.ListN.{length, getD, set, take}
 use Rattle.geometry.specs.Determinant.{table}
@@ -21,6 +21,13 @@ table-next (suc n) f (x ∷ xs) h e =
     let first : x ≡ f 0 = cc in
     let rest : take n xs ≡ table n (λ i. f (suc i)) = cc in
     ap₂ _∷_ first (table-next n (λ i. f (suc i)) xs (omega arith) rest)
+
+pub table-map : {A B : Type 0} (f : A → B) (d : A) (n : ℕ) (xs : List A) → length xs ≡ n → table n (λ k. f (getD xs k d)) ≡ map f xs
+unfolding table
+table-map f d zero [] h = refl
+table-map f d zero (x ∷ xs) h = absurd (omega arith)
+table-map f d (suc n) [] h = absurd (omega arith)
+table-map f d (suc n) (x ∷ xs) h = ap (λ l. f x ∷ l) (table-map f d n xs (omega arith))
 
 module _ (A B C : Type 0) (R : A → B → C → Type 0) (a : A) (b : B) (c : C) (out : R a b c) where
   pub table-related : (n : ℕ) (f : ℕ → A) (g : ℕ → B) (h : ℕ → C) → ((i : ℕ) → R (f i) (g i) (h i)) → (k : ℕ) → R (getD (table n f) k a) (getD (table n g) k b) (getD (table n h) k c)

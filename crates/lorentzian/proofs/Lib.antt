@@ -1,2 +1,3 @@
 -- Laws on triangles that this crate's proofs and the crates above cite.
 pub mod Triangles
+pub mod AreaExactness

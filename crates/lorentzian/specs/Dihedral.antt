@@ -39,6 +39,10 @@ abbrev pub valueOf : Dihedral → Float
 valueOf (Angle x) = x
 valueOf (Boost x) = x
 
+-- the number of its kind
+abbrev pub kindNumberOf : Dihedral → ℕ
+kindNumberOf d = kindNumber (kindOf d)
+
 -- ---- what both rules share
 
 -- the size up to which a ratio is a cosine: 1.0 + 1e-12
@@ -102,10 +106,15 @@ abbrev pub refusalOf : DihedralAnswer → ℕ
 refusalOf (Done d) = 0
 refusalOf (Refused r) = numberOf r
 
--- the dihedral, or `other` for a refusal
-abbrev pub dihedralOr : DihedralAnswer → Dihedral → Dihedral
-dihedralOr (Done d) other = d
-dihedralOr (Refused r) other = other
+-- the dihedral's number, or `other` for a refusal
+abbrev pub valueOr : DihedralAnswer → Float → Float
+valueOr (Done d) other = valueOf d
+valueOr (Refused r) other = other
+
+-- the number of the dihedral's kind, or `other` for a refusal
+abbrev pub kindOr : DihedralAnswer → ℕ → ℕ
+kindOr (Done d) other = kindNumberOf d
+kindOr (Refused r) other = other
 
 -- the ten of the pairs 01, 02, 03, 04, 12, 13, 14, 23, 24, 34
 unfoldable pub allDihedrals : List Float → List Dihedral

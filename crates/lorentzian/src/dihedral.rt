@@ -11,10 +11,11 @@ use geometry::cofactor_6x6;
 use refusals::Refusal;
 use root::root;
 ghost use mathlib.Core.Path.{_≡_};
+ghost use mathlib.Core.List.{map};
 ghost use Prim.Native.Nat.{_<_};
 ghost use Rattle.floats.specs.Algebra.{doubles};
 ghost use Rattle.geometry.specs.Determinant.{cofactor};
-ghost use Rattle.lorentzian.specs.Dihedral.{kindNumber, kindOf, valueOf, ratioOf, ofRatio, ofMixed, computeDihedral, dihedralByRoot, lorentzianDihedral, dihedralAnswer, refusalOf, dihedralOr, allDihedrals};
+ghost use Rattle.lorentzian.specs.Dihedral.{kindNumber, kindOf, valueOf, kindNumberOf, ratioOf, ofRatio, ofMixed, computeDihedral, dihedralByRoot, lorentzianDihedral, dihedralAnswer, refusalOf, valueOr, kindOr, allDihedrals};
 
 // ---- the cases
 
@@ -147,12 +148,22 @@ impl DihedralAnswer {
         }
     }
 
-    // The dihedral, or `other` for a refusal.
-    pub fn dihedral_or(self, other: Dihedral) -> Dihedral
-        ensures { λ r. ⌜ r ≡ dihedralOr self other ⌝ }
+    // The dihedral's number, or `other` for a refusal.
+    pub fn value_or(self, other: f64) -> f64
+        ensures { λ r. ⌜ r ≡ valueOr self other ⌝ }
     {
         match self {
-            DihedralAnswer::Done(dihedral) => dihedral,
+            DihedralAnswer::Done(dihedral) => dihedral.value(),
+            DihedralAnswer::Refused(_) => other,
+        }
+    }
+
+    // The number of the dihedral's kind, or `other` for a refusal.
+    pub fn kind_or(self, other: u8) -> u8
+        ensures { λ r. ⌜ r ≡ kindOr self other ⌝ }
+    {
+        match self {
+            DihedralAnswer::Done(dihedral) => kind_number(dihedral),
             DihedralAnswer::Refused(_) => other,
         }
     }
@@ -210,5 +221,50 @@ pub fn all_lorentzian_dihedrals(s: &[f64; 10]) -> [Dihedral; 10]
         dihedral_by_root(c[10], c22, c33),
         dihedral_by_root(c[11], c22, c44),
         dihedral_by_root(c[13], c33, c44),
+    ]
+}
+
+// ---- ten dihedrals as plain lists
+
+// Their numbers.
+pub fn dihedral_values(d: [Dihedral; 10]) -> [f64; 10]
+    ensures { λ r. ⌜ r ≡ map valueOf d ⌝ }
+{
+    [
+        d[0].value(),
+        d[1].value(),
+        d[2].value(),
+        d[3].value(),
+        d[4].value(),
+        d[5].value(),
+        d[6].value(),
+        d[7].value(),
+        d[8].value(),
+        d[9].value(),
+    ]
+}
+
+// The number of a dihedral's kind.
+fn kind_number(d: Dihedral) -> u8
+    ensures { λ r. ⌜ r ≡ kindNumberOf d ⌝ }
+{
+    d.kind().number()
+}
+
+// The numbers of their kinds.
+pub fn dihedral_kinds(d: [Dihedral; 10]) -> [u8; 10]
+    ensures { λ r. ⌜ r ≡ map kindNumberOf d ⌝ }
+{
+    [
+        kind_number(d[0]),
+        kind_number(d[1]),
+        kind_number(d[2]),
+        kind_number(d[3]),
+        kind_number(d[4]),
+        kind_number(d[5]),
+        kind_number(d[6]),
+        kind_number(d[7]),
+        kind_number(d[8]),
+        kind_number(d[9]),
     ]
 }

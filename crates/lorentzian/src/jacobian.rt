@@ -1,29 +1,11 @@
 // The derivatives of the ten dihedrals by the ten squared lengths, by central differences.
 use crate::dihedral::all_lorentzian_dihedrals;
+use crate::dihedral::dihedral_values;
 ghost use mathlib.Core.Path.{_≡_};
 ghost use Prim.Native.Nat.{_<_};
 ghost use lib.ListN.{set};
 ghost use Rattle.geometry.specs.Determinant.{table};
 ghost use Rattle.lorentzian.specs.Jacobian.{values, column, entryOf, jacobian};
-
-// The numbers of the ten dihedrals.
-fn dihedral_values(s: [f64; 10]) -> [f64; 10]
-    ensures { λ r. ⌜ r ≡ values s ⌝ }
-{
-    let d = all_lorentzian_dihedrals(&s);
-    [
-        d[0].value(),
-        d[1].value(),
-        d[2].value(),
-        d[3].value(),
-        d[4].value(),
-        d[5].value(),
-        d[6].value(),
-        d[7].value(),
-        d[8].value(),
-        d[9].value(),
-    ]
-}
 
 // The numbers of the ten dihedrals with the e-th length set.
 fn values_with(s: [f64; 10], e: usize, x: f64) -> [f64; 10]
@@ -32,7 +14,7 @@ fn values_with(s: [f64; 10], e: usize, x: f64) -> [f64; 10]
 {
     let mut work = s;
     work[e] = x;
-    dihedral_values(work)
+    dihedral_values(all_lorentzian_dihedrals(&work))
 }
 
 // The derivatives by the e-th length.

@@ -10,6 +10,8 @@ pub use dihedral::DihedralAnswer;
 pub use dihedral::HingeType;
 pub use dihedral::all_lorentzian_dihedrals;
 pub use dihedral::compute_dihedral;
+pub use dihedral::dihedral_kinds;
+pub use dihedral::dihedral_values;
 pub use dihedral::lorentzian_dihedral;
 pub use jacobian::all_lorentzian_dihedrals_jacobian;
 pub use triangle::tri_area_sq_grad_in_pent;

@@ -1,12 +1,14 @@
--- `lorentzian::jacobian::dihedral_values` meets its contract. Assumes nothing.
+-- `lorentzian::dihedral::dihedral_values` meets its contract. Assumes nothing.
+use mathlib.Core.Path.{_≡_}
+use lib.ListN.{length}
+use lib.Ieee.{nan}
 use borrow.Author.Needs.{needs}
-use Rattle.lorentzian.specs.Dihedral.{allDihedrals}
-use Rattle.lorentzian.specs.Jacobian.{values}
-use Rattle.lorentzian.proofs.jacobian.dihedral_values.Statement.{statement}
-use Rattle.lorentzian.proofs.jacobian.dihedral_values.Tie as tie
-
-all-lorentzian-dihedrals-requires : tie.Need-all-lorentzian-dihedrals-requires
-all-lorentzian-dihedrals-requires c κs = search needs
+use Rattle.geometry.specs.Determinant.{table}
+use Rattle.geometry.proofs.Tables.{table-map}
+use Rattle.lorentzian.specs.Dihedral.{valueOf}
+use Rattle.lorentzian.specs.declared.dihedral.Dihedral.the-variants.{Angle}
+use Rattle.lorentzian.proofs.dihedral.dihedral_values.Statement.{statement}
+use Rattle.lorentzian.proofs.dihedral.dihedral_values.Tie as tie
 
 array-copy-out-value : tie.Need-array-copy-out-value
 array-copy-out-value c = search needs
@@ -69,8 +71,10 @@ value-requires-10 : tie.Need-value-requires-10
 value-requires-10 c κs = search needs
 
 returns : tie.Need-returns
-unfolding allDihedrals values
+unfolding table
 returns c =
+    let d = c .before .before .before .before .before .before .before .before .before .before .before .before .before .before .before .before .before .before .before .before .args .t1 in
+    let ten : length d ≡ 10 = search needs in
     rw (
       c .before .before .before .before .before .before .before .before .before .before .before .before .before .before .before .before .before .before .value .ensures,
       c .before .before .before .before .before .before .before .before .before .before .before .before .before .before .before .before .value2 .ensures,
@@ -82,14 +86,13 @@ returns c =
       c .before .before .before .before .value8 .ensures,
       c .before .before .value9 .ensures,
       c .value10 .ensures,
-      c .before .before .before .before .before .before .before .before .before .before .before .before .before .before .before .before .before .before .before .before .all-lorentzian-dihedrals .ensures,
     )
+    (table-map valueOf (Angle nan) 10 d ten)
 
 pub dihedral-values-spec : {M : Type 1} → statement M
 dihedral-values-spec =
     tie.close
     (tie.spec
-    all-lorentzian-dihedrals-requires
     array-copy-out-value
     value-requires
     array-copy-out-value-2
