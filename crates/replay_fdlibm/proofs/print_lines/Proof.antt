@@ -1,9 +1,9 @@
--- `replay_fdlibm::replay` is safe: each line that is read lies within the text. Assumes nothing.
+-- `replay_fdlibm::print_lines` is safe: each line that is read lies within the text. Assumes nothing.
 use Prim.Native.Nat.{_≤_, _-_}
 use lib.ListN.{length}
 use borrow.Author.Needs.{needs}
-use Rattle.replay_fdlibm.proofs.replay.Statement.{statement}
-use Rattle.replay_fdlibm.proofs.replay.Tie as tie
+use Rattle.replay_fdlibm.proofs.print_lines.Statement.{statement}
+use Rattle.replay_fdlibm.proofs.print_lines.Tie as tie
 
 abbrev Inv-loop : tie.InvT-loop
 Inv-loop text at₀ at = at ≤ length text
@@ -35,8 +35,8 @@ loop-again c = search needs
 returns : tie.Need-returns Inv-loop μ-loop
 returns c = search needs
 
-pub replay-spec : {M : Type 1} → statement M
-replay-spec =
+pub print-lines-spec : {M : Type 1} → statement M
+print-lines-spec =
     tie.close
     (tie.spec
     Inv-loop

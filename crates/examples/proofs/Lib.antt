@@ -1,0 +1,2 @@
+-- The theorem on the examples.
+pub mod Hold

@@ -1,0 +1,2 @@
+-- The definitions that contracts of the replay programs' library cite.
+pub mod Hexadecimal

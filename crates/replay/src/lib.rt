@@ -1,0 +1,60 @@
+// What the replay programs share: numbers read from hexadecimal digits, and doubles printed as their bits.
+use libc::STDOUT_FILENO;
+ghost use mathlib.Core.Path.{_≡_};
+ghost use Prim.Native.Nat.{_+_, _<_, _≤_};
+ghost use lib.ListN.{length, take, drop};
+ghost use Rattle.replay.specs.Hexadecimal.{digitOf, spelled, numberAt};
+
+// The value of a hexadecimal digit in lower case, and 0 for any other byte.
+fn digit(b: u8) -> u64
+    ensures { λ r. ⌜ (r ≡ digitOf b) × (r < 16) ⌝ }
+{
+    let n = b as u64;
+    if n < 48 {
+        return 0;
+    }
+    if n < 58 {
+        return n - 48;
+    }
+    if n < 97 {
+        return 0;
+    }
+    if n < 103 {
+        return n - 87;
+    }
+    0
+}
+
+// The number that the 16 digits from `at` spell.
+fn spelled_at(s: &[u8], at: usize) -> u64
+    requires { ⌜ at + 16 ≤ length (now s) ⌝ }
+    ensures { λ r. ⌜ r ≡ spelled 0 (take 16 (drop at (now (s .entry)))) ⌝ }
+{
+    let mut n: u64 = 0;
+    for i in 0..16 {
+        n = n % 0x1000_0000_0000_0000 * 16 + digit(s[at + i]);
+    }
+    n
+}
+
+// The number that the 16 digits from `at` spell, 0 where they run past the end.
+pub fn number(s: &[u8], at: usize) -> u64
+    ensures { λ r. ⌜ r ≡ numberAt (now (s .entry)) at ⌝ }
+{
+    if s.len() < 16 {
+        return 0;
+    }
+    if s.len() - 16 < at {
+        return 0;
+    }
+    spelled_at(s, at)
+}
+
+// Prints the bits of x as 16 hexadecimal digits, or nan.
+pub fn print_double(x: f64) {
+    if floats::is_nan(x) {
+        io::write_all(STDOUT_FILENO, b"nan");
+        return;
+    }
+    io::print_hex(STDOUT_FILENO, floats::bits_of(x), 16);
+}
