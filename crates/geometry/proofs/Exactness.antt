@@ -1,18 +1,19 @@
 -- Where all ten squared lengths are whole and at most 32,768 in size, each cofactor of the rows and columns 1 to 5 is exactly the integers' cofactor. Assumes nothing.
 use Prim.Native.Nat.{ℕ, zero, suc, _+_, _-_, _^_, _≤_, _<_}
-use mathlib.Core.Path.{_≡_, sym, subst, subst₂}
+use mathlib.Core.Path.{_≡_, refl, sym, subst, subst₂}
 use mathlib.Core.Bool.{Bool, true, _&&_}
-use mathlib.Core.List.{List, [], _∷_}
+use mathlib.Core.List.{List, [], _∷_, map}
 use mathlib.Core.Logic.{inl, inr}
-use native.Mathlib.Nat.{eq-or-lt-of-le}
+use native.Mathlib.Nat.{eq-or-lt-of-le, le-trans}
 use native.Mathlib.Omega.{arith}
-use lib.Dec.{T, leb, ltb, leb→le, ltb→lt, lit<}
+use lib.Dec.{T, leb, ltb, leb→le, ltb→lt}
 use lib.ListN.{length, getD}
-use lib.IntN.{ℤ, pos}
-use lib.Ieee.{Float, nan}
+use lib.IntN.{ℤ, pos, natAbs}
+use lib.Ieee.{Float, nan, binary64, ofInt}
 use lib.Ieee.Fits.{and-l, and-r}
 use Rattle.floats.specs.Algebra.{doubles, integers}
 use Rattle.floats.specs.Whole.{IsInt}
+use Rattle.floats.proofs.Integers.{ofInt-int}
 use Rattle.floats.proofs.Bounds.{Bound, bounds, Follows, closed, int-follows, follows-int}
 use Rattle.geometry.specs.Determinant.{table, at, skip, minor, sign, det3, expand, det4, det5, cofactor}
 use Rattle.geometry.specs.CayleyMenger.{cm, cofactors, Whole, limit}
@@ -107,3 +108,16 @@ module _ (x : List Float) (z : List ℤ) (h : Whole 10 limit x z) where
   -- each of the 15
   pub cofactors-exact : (k : ℕ) → k < 15 → IsInt (getD (cofactors doubles x) k nan) (getD (cofactors integers z) k (pos 0))
   cofactors-exact k l = ints-at fifteen k (unfold cofactors in l)
+
+-- ---- the doubles of any integers in range are such lengths
+
+getD-map : {A B : Type 0} (f : A → B) (a : A) (b : B) (xs : List A) (k : ℕ) → k < length xs → getD (map f xs) k b ≡ f (getD xs k a)
+getD-map f a b [] k l = absurd (omega arith)
+getD-map f a b (x ∷ xs) zero l = refl
+getD-map f a b (x ∷ xs) (suc k) l = getD-map f a b xs k (omega arith)
+
+pub whole-ofInt : (n b : ℕ) (z : List ℤ) → n ≤ length z → b ≤ 2 ^ 53 → ((k : ℕ) → k < n → natAbs (getD z k (pos 0)) ≤ b) → Whole n b (map (ofInt binary64) z) z
+whole-ofInt n b z long small h k l = (
+  rw (getD-map (ofInt binary64) (pos 0) nan z k (omega arith)) (ofInt-int (getD z k (pos 0)) (le-trans (h k l) small)),
+  h k l,
+)

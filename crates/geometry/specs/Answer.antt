@@ -1,6 +1,6 @@
 -- What `cofactor_6x6` answers. Definitions only.
 use Prim.Native.Nat.{ℕ}
-use mathlib.Core.Bool.{Bool, cond, _||_}
+use mathlib.Core.Bool.{cond, _||_}
 use mathlib.Core.List.{List}
 use lib.Dec.{ltb}
 use lib.Ieee.{Float}

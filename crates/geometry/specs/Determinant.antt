@@ -42,10 +42,11 @@ unfoldable pub expand : {A : Type 0} → Algebra A → (List (List A) → A) →
 expand o det n m zero = o .zero
 expand o det n m (suc k) = o .add (expand o det n m k) (o .mul (o .mul (sign o k) (at o m 0 k)) (det (minor o n m 0 k)))
 
--- the determinants of a 4 × 4 and of a 5 × 5 matrix
+-- the determinant of a 4 × 4 matrix
 unfoldable pub det4 : {A : Type 0} → Algebra A → List (List A) → A
 det4 o m = expand o (det3 o) 3 m 4
 
+-- the determinant of a 5 × 5 matrix
 unfoldable pub det5 : {A : Type 0} → Algebra A → List (List A) → A
 det5 o m = expand o (det4 o) 4 m 5
 

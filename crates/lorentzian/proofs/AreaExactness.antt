@@ -1,7 +1,7 @@
 -- Where three squared lengths are whole and at most 16,777,216 in size, the squared area is exact. Assumes nothing.
 use Prim.Native.Nat.{ℕ, _*_, _^_, _≤_, _<_}
 use mathlib.Core.Path.{_≡_, refl, sym, ap, _∙_, subst}
-use mathlib.Core.Bool.{Bool, true, false}
+use mathlib.Core.Bool.{Bool, false}
 use native.Mathlib.Nat.{le-refl, lt-of-lt-of-le, lt-of-le-of-lt, mul-assoc, mul-right-comm, mul-pos, mul-lt-mul-of-pos-right}
 use lib.Dec.{lit<, lit≤}
 use lib.Pow.{pow-pos}
@@ -10,7 +10,7 @@ use lib.Ieee.{Float, nan, inf, fin, binary64, up, down, unlike, round, div, ofBi
 use lib.Ieee.Fits.{down-pos}
 use lib.Ieee.Exact.{HasValue, round-exact}
 use Rattle.floats.specs.Ops.{_⊘_, dbl, two}
-use Rattle.floats.specs.Whole.{signed, IsInt, IsRatio}
+use Rattle.floats.specs.Whole.{IsInt, IsRatio}
 use Rattle.floats.specs.Algebra.{Algebra, doubles, integers}
 use Rattle.floats.proofs.Signs.{unlike-false}
 use Rattle.floats.proofs.Values.{rescale}

@@ -1,6 +1,6 @@
 -- Dihedrals by both rules. In either a dihedral is an angle or a boost and carries its one number. Definitions only.
 use Prim.Native.Nat.{ℕ, _+_}
-use mathlib.Core.Bool.{Bool, cond, _||_}
+use mathlib.Core.Bool.{cond, _||_}
 use mathlib.Core.List.{List, [], _∷_}
 use lib.Dec.{ltb, eqb}
 use lib.Ieee.{Float, neg, lt, le}
@@ -53,7 +53,7 @@ ratioLimit = one ⊕ dbl 0x3d71_9799_812d_ea11
 unfoldable pub ratioOf : Float → Float → Float → Float
 ratioOf clm cll root = cond (lt cll zero) (neg one) one ⊗ neg clm ⊘ root
 
--- the dihedral of a ratio whose cofactors have the same sign
+-- the dihedral of a ratio whose cofactors have the same sign; a NaN ratio is a boost
 unfoldable pub ofRatio : Float → Dihedral
 ofRatio ratio =
     cond (le (absOf ratio) ratioLimit)
@@ -70,6 +70,7 @@ ofMixed clm root = Boost (asinhOf (neg clm ⊘ root))
 abbrev pub productLimit : Float
 productLimit = dbl 0x3379_b604_aaac_a626
 
+-- the dihedral of three cofactors: the product rounded once, then the root, then the quotient; a NaN product goes to the last branch
 unfoldable pub computeDihedral : Float → Float → Float → Dihedral
 computeDihedral clm cll cmm =
     let product = cll ⊗ cmm in
@@ -84,6 +85,7 @@ computeDihedral clm cll cmm =
 abbrev pub rootLimit : Float
 rootLimit = dbl 0x39b4_484b_feeb_c2a0
 
+-- the dihedral of three cofactors; a degenerate root gives an angle where the product is positive, else a boost
 unfoldable pub dihedralByRoot : Float → Float → Float → Dihedral
 dihedralByRoot clm cll cmm =
     let product = cll ⊗ cmm in

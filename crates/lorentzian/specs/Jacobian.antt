@@ -11,7 +11,7 @@ use Rattle.lorentzian.specs.Dihedral.{valueOf, allDihedrals}
 unfoldable pub values : List Float → List Float
 values s = map valueOf (allDihedrals s)
 
--- the differences by the e-th length
+-- the central differences by the e-th length
 unfoldable pub column : List Float → Float → ℕ → List Float
 column s eps e =
     let old = getD s e nan in

@@ -1,5 +1,5 @@
 -- `lorentzian::triangle::edge_of` meets its contract. Assumes nothing.
-use mathlib.Core.Path.{_≡_, refl}
+use mathlib.Core.Path.{_≡_}
 use native.Mathlib.Omega.{arith}
 use borrow.Author.Needs.{needs}
 use Rattle.lorentzian.specs.Triangle.{edgeOf}

@@ -1,5 +1,4 @@
 -- `lorentzian::triangle::grad_in_pent` meets its contract. Assumes nothing.
-use mathlib.Core.Path.{refl}
 use borrow.Author.Needs.{needs}
 use Rattle.lorentzian.specs.Triangle.{gradInPent}
 use Rattle.lorentzian.proofs.Triangles.{separate}
