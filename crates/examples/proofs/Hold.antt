@@ -9,11 +9,11 @@ use Rattle.fdlibm.specs.Ints.{_<ˢ_, wordsAre}
 use Rattle.fdlibm.specs.Acos.{acosOf}
 use Rattle.fdlibm.specs.Asinh.{asinhOf}
 use Rattle.geometry.specs.Determinant.{table, at, skip, minor, sign, det3, expand, det4, det5, cofactor}
-use Rattle.geometry.specs.CayleyMenger.{cm, cofactors}
+use Rattle.geometry.specs.CayleyMenger.{cm}
 use Rattle.lorentzian.specs.Triangle.{area16, areaSq, areaSqGrad}
 use Rattle.lorentzian.specs.Dihedral.{ratioOf, ofRatio, ofMixed, computeDihedral, dihedralByRoot, lorentzianDihedral}
 use Rattle.examples.specs.Examples.{AllHold, examples}
 
 pub all-hold : AllHold examples
-unfolding size toBits ofBits add sub mul div neg lt le absOf clampUnitOf highWord lowWord count floorRoot rootBits rootOf _<ˢ_ wordsAre acosOf asinhOf table at skip minor sign det3 expand det4 det5 cofactor cm cofactors area16 areaSq areaSqGrad ratioOf ofRatio ofMixed computeDihedral dihedralByRoot lorentzianDihedral
+unfolding size toBits ofBits add sub mul div neg lt le absOf clampUnitOf highWord lowWord count floorRoot rootBits rootOf _<ˢ_ wordsAre acosOf asinhOf table at skip minor sign det3 expand det4 det5 cofactor cm area16 areaSq areaSqGrad ratioOf ofRatio ofMixed computeDihedral dihedralByRoot lorentzianDihedral
 all-hold = (refl, (refl, (refl, (refl, (refl, (refl, (refl, (refl, (refl, (refl, (refl, (refl, (refl, (refl, (refl, (refl, (refl, tt)))))))))))))))))

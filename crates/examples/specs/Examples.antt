@@ -1,15 +1,16 @@
 -- The examples P1 to P9 of the scope paper as one list, and the one claim made of each: what a definition gives is what the paper says. Definitions only.
-use Prim.Native.Nat.{ℕ, suc}
+use Prim.Native.Nat.{ℕ, suc, _/_, _%_}
 use mathlib.Core.Path.{_≡_}
-use mathlib.Core.Bool.{Bool, true}
+use mathlib.Core.Bool.{Bool, true, cond}
 use mathlib.Core.List.{List, [], _∷_, _++_}
+use lib.Dec.{eqb}
 use lib.ListN.{replicate}
 use lib.Ieee.{Float, nan, neg, lt}
 use Rattle.floats.specs.Ops.{_⊗_, dbl, zero, half, one, two}
 use Rattle.floats.specs.Algebra.{doubles}
 use Rattle.root.specs.Root.{rootOf}
-use Rattle.geometry.specs.Determinant.{cofactor}
-use Rattle.geometry.specs.CayleyMenger.{cm, cofactors}
+use Rattle.geometry.specs.Determinant.{table, cofactor}
+use Rattle.geometry.specs.CayleyMenger.{cm}
 use Rattle.lorentzian.specs.Triangle.{areaSq, areaSqGrad}
 use Rattle.lorentzian.specs.Dihedral.{kindOf, ratioOf, computeDihedral, lorentzianDihedral}
 use Rattle.lorentzian.specs.declared.dihedral.HingeType.{HingeType}
@@ -22,7 +23,7 @@ use Rattle.lorentzian.specs.declared.dihedral.Dihedral.the-variants.{Angle, Boo
 -- what an example speaks of
 pub data Answer : Type 0 where
   numbers : List Float → Answer
-  dihedral : Dihedral → Answer
+  dihedrals : List Dihedral → Answer
   kind : HingeType → Answer
   truth : Bool → Answer
 
@@ -31,6 +32,10 @@ pub record Example : Type 0 where
   pub number : ℕ
   pub given : Answer
   pub said : Answer
+
+-- the n-th example: what is given and what is said
+abbrev pub example : ℕ → Answer → Answer → Example
+example n given said = record { number = n; given = given; said = said }
 
 -- the two are the same
 abbrev pub Holds : Example → Type 0
@@ -47,6 +52,10 @@ AllHold (e ∷ es) = Holds e × AllHold es
 abbrev pub C : List Float → ℕ → ℕ → Float
 C s l m = cofactor doubles (cm doubles s) (suc l) (suc m)
 
+-- what f gives for the pairs 01, 02, 03, 04, 12, 13, 14, 23, 24, 34
+abbrev pub pairs : {A : Type 0} → (ℕ → ℕ → A) → List A
+pairs f = f 0 1 ∷ f 0 2 ∷ f 0 3 ∷ f 0 4 ∷ f 1 2 ∷ f 1 3 ∷ f 1 4 ∷ f 2 3 ∷ f 2 4 ∷ f 3 4 ∷ []
+
 -- the ratio of the pair l, m
 abbrev pub ratio : List Float → ℕ → ℕ → Float
 ratio s l m = ratioOf (C s l m) (C s l l) (rootOf (C s l l ⊗ C s m m))
@@ -55,7 +64,7 @@ ratio s l m = ratioOf (C s l m) (C s l l) (rootOf (C s l l ⊗ C s m m))
 abbrev pub first : List Float → ℕ → ℕ → Dihedral
 first s l m = computeDihedral (C s l m) (C s l l) (C s m m)
 
--- doubles of the examples
+-- 4, 8, 16 and 0.25
 abbrev pub four : Float
 four = dbl 0x4010_0000_0000_0000
 
@@ -68,68 +77,68 @@ sixteen = dbl 0x4030_0000_0000_0000
 abbrev pub quarter : Float
 quarter = dbl 0x3fd0_0000_0000_0000
 
--- ---- P1: lengths all 1
+-- ---- P1
 
+-- lengths all 1
 abbrev pub ones : List Float
 ones = replicate 10 one
 
+-- diagonal cofactors 4, the others -1; ratio 0.25; squared area 3/16; area gradient 1/8 each
 abbrev pub p1 : List Example
 p1 =
-    record {
-      number = 1;
-      given = numbers (cofactors doubles ones);
-      said = let I = neg one in numbers (four ∷ I ∷ I ∷ I ∷ I ∷ four ∷ I ∷ I ∷ I ∷ four ∷ I ∷ I ∷ four ∷ I ∷ four ∷ []);
-    }
-    ∷ record { number = 1; given = numbers (ratio ones 0 1 ∷ []); said = numbers (quarter ∷ []) }
-    ∷ record { number = 1; given = numbers (areaSq one one one ∷ []); said = numbers (dbl 0x3fc8_0000_0000_0000 ∷ []) }
-    ∷ record { number = 1; given = numbers (areaSqGrad one one one); said = numbers (replicate 3 (dbl 0x3fc0_0000_0000_0000)) }
+    example 1 (numbers (table 25 (λ i. C ones (i / 5) (i % 5)))) (numbers (table 25 (λ i. cond (eqb (i / 5) (i % 5)) four (neg one))))
+    ∷ example 1 (numbers (ratio ones 0 1 ∷ [])) (numbers (quarter ∷ []))
+    ∷ example 1 (numbers (areaSq one one one ∷ [])) (numbers (dbl 0x3fc8_0000_0000_0000 ∷ []))
+    ∷ example 1 (numbers (areaSqGrad one one one)) (numbers (replicate 3 (dbl 0x3fc0_0000_0000_0000)))
     ∷ []
 
--- ---- P2 and P3: lengths -1, 1, 1, 1, 0, 0, 0, 2, 2, 2
+-- ---- P2 and P3
 
+-- lengths -1, 1, 1, 1, 0, 0, 0, 2, 2, 2
 abbrev pub mixed : List Float
 mixed = neg one ∷ one ∷ one ∷ one ∷ zero ∷ zero ∷ zero ∷ two ∷ two ∷ two ∷ []
 
--- C_23 is the zero -0.0
+-- C_00 = -16, C_11 = 8, C_22 = -8, C_01 = -8, C_02 = 8, and C_23 is the zero -0.0
 abbrev pub p2 : List Example
 p2 =
-    record {
-      number = 2;
-      given = numbers (C mixed 0 0 ∷ C mixed 1 1 ∷ C mixed 2 2 ∷ C mixed 0 1 ∷ C mixed 0 2 ∷ C mixed 2 3 ∷ []);
-      said = numbers (neg sixteen ∷ eight ∷ neg eight ∷ neg eight ∷ eight ∷ neg zero ∷ []);
-    }
+    example 2 (numbers (C mixed 0 0 ∷ C mixed 1 1 ∷ C mixed 2 2 ∷ C mixed 0 1 ∷ C mixed 0 2 ∷ C mixed 2 3 ∷ []))
+    (numbers (neg sixteen ∷ eight ∷ neg eight ∷ neg eight ∷ eight ∷ neg zero ∷ []))
     ∷ []
 
--- what P3 says of either rule
+-- by either rule (0,1) is Timelike, (0,2) Spacelike, (2,3) Spacelike with bits 3ff921fb54442d18, (1,2) Timelike 0
 abbrev pub p3 : (ℕ → ℕ → Dihedral) → List Example
 p3 rule =
-    record { number = 3; given = kind (kindOf (rule 0 1)); said = kind Timelike }
-    ∷ record { number = 3; given = kind (kindOf (rule 0 2)); said = kind Spacelike }
-    ∷ record { number = 3; given = dihedral (rule 2 3); said = dihedral (Angle (dbl 0x3ff9_21fb_5444_2d18)) }
-    ∷ record { number = 3; given = dihedral (rule 1 2); said = dihedral (Boost zero) }
+    example 3 (kind (kindOf (rule 0 1))) (kind Timelike)
+    ∷ example 3 (kind (kindOf (rule 0 2))) (kind Spacelike)
+    ∷ example 3 (dihedrals (rule 2 3 ∷ [])) (dihedrals (Angle (dbl 0x3ff9_21fb_5444_2d18) ∷ []))
+    ∷ example 3 (dihedrals (rule 1 2 ∷ [])) (dihedrals (Boost zero ∷ []))
     ∷ []
 
--- both rules take the same ratio
-abbrev pub p3-ratio : Example
-p3-ratio = record { number = 3; given = truth (lt zero (ratio mixed 0 2)); said = truth true }
+-- the ratio of (0,2), which both rules take, is positive
+abbrev pub p3-ratio : List Example
+p3-ratio = example 3 (truth (lt zero (ratio mixed 0 2))) (truth true) ∷ []
 
--- ---- P4: lengths all 0
+-- ---- P4
 
+-- lengths all 0
 abbrev pub zeros : List Float
 zeros = replicate 10 zero
 
+-- every pair is Spacelike 0 by the first rule, Timelike 0 by the second
 abbrev pub p4 : List Example
 p4 =
-    record { number = 4; given = dihedral (first zeros 0 1); said = dihedral (Angle zero) }
-    ∷ record { number = 4; given = dihedral (lorentzianDihedral zeros 0 1); said = dihedral (Boost zero) }
+    example 4 (dihedrals (pairs (first zeros))) (dihedrals (replicate 10 (Angle zero)))
+    ∷ example 4 (dihedrals (pairs (lorentzianDihedral zeros))) (dihedrals (replicate 10 (Boost zero)))
     ∷ []
 
--- ---- P9: the root
+-- ---- P9
 
+-- the root of 0.25 is 0.5, that of -1 NaN
 abbrev pub p9 : List Example
-p9 = record { number = 9; given = numbers (rootOf quarter ∷ rootOf (neg one) ∷ []); said = numbers (half ∷ nan ∷ []) } ∷ []
+p9 = example 9 (numbers (rootOf quarter ∷ rootOf (neg one) ∷ [])) (numbers (half ∷ nan ∷ [])) ∷ []
 
 -- ---- the list
 
+-- all examples
 abbrev pub examples : List Example
-examples = p1 ++ p2 ++ p3 (first mixed) ++ p3 (lorentzianDihedral mixed) ++ (p3-ratio ∷ []) ++ p4 ++ p9
+examples = p1 ++ p2 ++ p3 (first mixed) ++ p3 (lorentzianDihedral mixed) ++ p3-ratio ++ p4 ++ p9

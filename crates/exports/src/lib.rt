@@ -87,7 +87,7 @@ pub extern "C" fn cjapthumi_clamp_unit(x: f64) -> f64
 
 // ---- geometry
 
-// A refused call returns the refusal's number and changes nothing; an answer returns 0.
+// A refused call returns the refusal's number, whose place is 0, and changes nothing; an answer returns 0.
 
 #[no_mangle]
 pub extern "C" fn cjapthumi_cofactor_6x6(

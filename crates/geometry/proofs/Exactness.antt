@@ -16,7 +16,7 @@ use Rattle.floats.specs.Whole.{IsInt}
 use Rattle.floats.proofs.Integers.{ofInt-int}
 use Rattle.floats.proofs.Bounds.{Bound, bounds, Follows, closed, int-follows, follows-int}
 use Rattle.geometry.specs.Determinant.{table, at, skip, minor, sign, det3, expand, det4, det5, cofactor}
-use Rattle.geometry.specs.CayleyMenger.{cm, cofactors, Whole, limit}
+use Rattle.geometry.specs.CayleyMenger.{cm, cofactors, WholeWithin, limit}
 use Rattle.geometry.proofs.Tables.{getD-table}
 use Rattle.geometry.proofs.Related.{cm-cofactor-related}
 
@@ -73,7 +73,7 @@ ints-at none k l = absurd (omega arith)
 ints-at (more h t) zero l = h
 ints-at (more h t) (suc k) l = ints-at t k (omega arith)
 
-module _ (x : List Float) (z : List ℤ) (h : Whole 10 limit x z) where
+module _ (x : List Float) (z : List ℤ) (h : WholeWithin 10 limit x z) where
   length-follows : (k : ℕ) → k < 10 → Follows (getD x k nan) (getD z k (pos 0)) (getD ten k (bounds .out))
   length-follows k l = rw (ten-at k l) (int-follows 15 (getD x k nan) (getD z k (pos 0)) (h k l .0) (h k l .1))
 
@@ -116,7 +116,7 @@ getD-map f a b [] k l = absurd (omega arith)
 getD-map f a b (x ∷ xs) zero l = refl
 getD-map f a b (x ∷ xs) (suc k) l = getD-map f a b xs k (omega arith)
 
-pub whole-ofInt : (n b : ℕ) (z : List ℤ) → n ≤ length z → b ≤ 2 ^ 53 → ((k : ℕ) → k < n → natAbs (getD z k (pos 0)) ≤ b) → Whole n b (map (ofInt binary64) z) z
+pub whole-ofInt : (n b : ℕ) (z : List ℤ) → n ≤ length z → b ≤ 2 ^ 53 → ((k : ℕ) → k < n → natAbs (getD z k (pos 0)) ≤ b) → WholeWithin n b (map (ofInt binary64) z) z
 whole-ofInt n b z long small h k l = (
   rw (getD-map (ofInt binary64) (pos 0) nan z k (omega arith)) (ofInt-int (getD z k (pos 0)) (le-trans (h k l) small)),
   h k l,

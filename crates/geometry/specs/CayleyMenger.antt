@@ -34,8 +34,8 @@ cofactors o s =
 -- ---- whole lengths
 
 -- the first n of x are whole, with the values of the first n of z, each within -b to b
-abbrev pub Whole : ℕ → ℕ → List Float → List ℤ → Type 0
-Whole n b x z = (k : ℕ) → k < n → IsInt (getD x k nan) (getD z k (pos 0)) × (natAbs (getD z k (pos 0)) ≤ b)
+abbrev pub WholeWithin : ℕ → ℕ → List Float → List ℤ → Type 0
+WholeWithin n b x z = (k : ℕ) → k < n → IsInt (getD x k nan) (getD z k (pos 0)) × (natAbs (getD z k (pos 0)) ≤ b)
 
 -- how large whole lengths may be for exact cofactors
 abbrev pub limit : ℕ
