@@ -101,9 +101,9 @@ pub extern "C" fn cjapthumi_cofactor_6x6(
         × (now (value .exit) ≡ Cofactor.valueOr (Cofactor.cofactorAnswer (now (m .entry)) row col) (now (value .entry)))
         ⌝ }
 {
-    let answer = cofactor_6x6(m, row, col);
-    *value = answer.value_or(*value);
-    answer.number()
+    let cofactor = cofactor_6x6(m, row, col);
+    *value = cofactor.value_or(*value);
+    cofactor.number()
 }
 
 #[no_mangle]
@@ -177,10 +177,10 @@ pub extern "C" fn cjapthumi_lorentzian_dihedral(
         × (now (kind .exit) ≡ kindOr (dihedralAnswer (now (s .entry)) l m) (now (kind .entry)))
         ⌝ }
 {
-    let answer = lorentzian_dihedral(s, l, m);
-    *value = answer.value_or(*value);
-    *kind = answer.kind_or(*kind);
-    answer.number()
+    let dihedral = lorentzian_dihedral(s, l, m);
+    *value = dihedral.value_or(*value);
+    *kind = dihedral.kind_or(*kind);
+    dihedral.number()
 }
 
 #[no_mangle]
