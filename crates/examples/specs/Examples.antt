@@ -12,7 +12,7 @@ use Rattle.root.specs.Root.{rootOf}
 use Rattle.geometry.specs.Determinant.{table, cofactor}
 use Rattle.geometry.specs.CayleyMenger.{cm}
 use Rattle.lorentzian.specs.Triangle.{areaSq, areaSqGrad}
-use Rattle.lorentzian.specs.Dihedral.{kindOf, ratioOf, computeDihedral, lorentzianDihedral}
+use Rattle.lorentzian.specs.Dihedral.{kindOf, ratioOf, computeDihedral, lorentzianDihedral, pairs}
 use Rattle.lorentzian.specs.declared.dihedral.HingeType.{HingeType}
 use Rattle.lorentzian.specs.declared.dihedral.HingeType.the-variants.{Spacelike, Timelike}
 use Rattle.lorentzian.specs.declared.dihedral.Dihedral.{Dihedral}
@@ -51,10 +51,6 @@ AllHold (e ∷ es) = Holds e × AllHold es
 -- the cofactor C_lm of the squared lengths s
 abbrev pub C : List Float → ℕ → ℕ → Float
 C s l m = cofactor doubles (cm doubles s) (suc l) (suc m)
-
--- what f gives for the pairs 01, 02, 03, 04, 12, 13, 14, 23, 24, 34
-abbrev pub pairs : {A : Type 0} → (ℕ → ℕ → A) → List A
-pairs f = f 0 1 ∷ f 0 2 ∷ f 0 3 ∷ f 0 4 ∷ f 1 2 ∷ f 1 3 ∷ f 1 4 ∷ f 2 3 ∷ f 2 4 ∷ f 3 4 ∷ []
 
 -- the ratio of the pair l, m
 abbrev pub ratio : List Float → ℕ → ℕ → Float

@@ -4,7 +4,6 @@ use lorentzian::all_lorentzian_dihedrals;
 use lorentzian::lorentzian_dihedral;
 ghost use mathlib.Core.Path.{_≡_};
 ghost use mathlib.Core.List.{map};
-ghost use lib.ListN.{getD};
 ghost use Rattle.refusals.specs.Refusals.{outcomeNumber};
 ghost use Rattle.floats.specs.Algebra.{doubles};
 ghost use Rattle.floats.specs.Methods.{absOf, signumOf, clampUnitOf};
@@ -142,10 +141,8 @@ pub extern "C" fn cjapthumi_tri_area_sq_grad_in_pent(
     tri: &[usize; 3],
     grad: &mut [f64; 10],
 ) -> u32
-    ensures { λ r. ⌜
-        (r ≡ outcomeNumber (gradOutcome (getD (now (tri .entry)) 0 0) (getD (now (tri .entry)) 1 0) (getD (now (tri .entry)) 2 0)))
-        × (now (grad .exit) ≡ gradAfter (now (s .entry)) (getD (now (tri .entry)) 0 0) (getD (now (tri .entry)) 1 0) (getD (now (tri .entry)) 2 0) (now (grad .entry)))
-        ⌝ }
+    ensures { λ r. ⌜ r ≡ outcomeNumber (gradOutcome (now (tri .entry))) ⌝ }
+    ensures { λ r. ⌜ now (grad .exit) ≡ gradAfter (now (s .entry)) (now (tri .entry)) (now (grad .entry)) ⌝ }
 {
     lorentzian::tri_area_sq_grad_in_pent(s, *tri, grad).number()
 }
@@ -160,7 +157,7 @@ pub extern "C" fn cjapthumi_compute_dihedral(c_lm: f64, c_ll: f64, c_mm: f64, va
 {
     let dihedral = lorentzian::compute_dihedral(c_lm, c_ll, c_mm);
     *value = dihedral.value();
-    dihedral.kind().number()
+    dihedral.kind_number()
 }
 
 #[no_mangle]

@@ -2,3 +2,4 @@
 pub mod Tables
 pub mod Related
 pub mod Exactness
+pub mod Answers

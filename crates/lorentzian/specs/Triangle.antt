@@ -64,10 +64,10 @@ gradInPent s a b c =
     let grad = areaSqGrad (getD s (edgeIdx a b) nan) (getD s (edgeIdx a c) nan) (getD s (edgeIdx b c) nan) in
     set (set (set (replicate 10 Ops.zero) (edgeIdx a b) (getD grad 0 nan)) (edgeIdx a c) (getD grad 1 nan)) (edgeIdx b c) (getD grad 2 nan)
 
--- refusal 11 where they are no triangle
-abbrev pub gradOutcome : ℕ → ℕ → ℕ → Outcome
-gradOutcome a b c = cond (noTriangle a b c) (Refused BadIndex) Done
+-- refusal 11 where the three of `tri` are no triangle
+abbrev pub gradOutcome : List ℕ → Outcome
+gradOutcome tri = cond (noTriangle (getD tri 0 0) (getD tri 1 0) (getD tri 2 0)) (Refused BadIndex) Done
 
--- what the lent buffer holds then: the derivatives, or what it held
-abbrev pub gradAfter : List Float → ℕ → ℕ → ℕ → List Float → List Float
-gradAfter s a b c old = cond (noTriangle a b c) old (gradInPent s a b c)
+-- what the lent buffer holds then: what it held, or the derivatives
+abbrev pub gradAfter : List Float → List ℕ → List Float → List Float
+gradAfter s tri old = cond (noTriangle (getD tri 0 0) (getD tri 1 0) (getD tri 2 0)) old (gradInPent s (getD tri 0 0) (getD tri 1 0) (getD tri 2 0))

@@ -13,8 +13,6 @@ use root::root;
 ghost use mathlib.Core.Path.{_≡_};
 ghost use mathlib.Core.List.{map};
 ghost use Prim.Native.Nat.{_<_};
-ghost use Rattle.floats.specs.Algebra.{doubles};
-ghost use Rattle.geometry.specs.Determinant.{cofactor};
 ghost use Rattle.lorentzian.specs.Dihedral.{kindNumber, kindOf, valueOf, kindNumberOf, ratioOf, ofRatio, ofMixed, computeDihedral, dihedralByRoot, lorentzianDihedral, dihedralAnswer, refusalOf, valueOr, kindOr, allDihedrals};
 
 // ---- the cases
@@ -64,6 +62,13 @@ impl Dihedral {
             Dihedral::Angle(angle) => angle,
             Dihedral::Boost(boost) => boost,
         }
+    }
+
+    // The number of its kind.
+    pub fn kind_number(self) -> u8
+        ensures { λ r. ⌜ r ≡ kindNumberOf self ⌝ }
+    {
+        self.kind().number()
     }
 }
 
@@ -163,18 +168,10 @@ impl DihedralAnswer {
         ensures { λ r. ⌜ r ≡ kindOr self other ⌝ }
     {
         match self {
-            DihedralAnswer::Done(dihedral) => kind_number(dihedral),
+            DihedralAnswer::Done(dihedral) => dihedral.kind_number(),
             DihedralAnswer::Refused(_) => other,
         }
     }
-}
-
-// The cofactor of a row and a column that the matrix has.
-fn cofactor_at(m: &[[f64; 6]; 6], row: usize, col: usize) -> f64
-    requires { ⌜ (row < 6) × (col < 6) ⌝ }
-    ensures { λ r. ⌜ r ≡ cofactor doubles (now (m .entry)) row col ⌝ }
-{
-    cofactor_6x6(m, row, col).value_or(0.0)
 }
 
 // The dihedral of two of a pentachoron's vertices.
@@ -183,9 +180,9 @@ fn dihedral_at(s: &[f64; 10], l: usize, m: usize) -> Dihedral
     ensures { λ r. ⌜ r ≡ lorentzianDihedral (now (s .entry)) l m ⌝ }
 {
     let cm = cm_matrix_signed(s);
-    let c_lm = cofactor_at(&cm, l + 1, m + 1);
-    let c_ll = cofactor_at(&cm, l + 1, l + 1);
-    let c_mm = cofactor_at(&cm, m + 1, m + 1);
+    let c_lm = cofactor_6x6(&cm, l + 1, m + 1).value_or(0.0);
+    let c_ll = cofactor_6x6(&cm, l + 1, l + 1).value_or(0.0);
+    let c_mm = cofactor_6x6(&cm, m + 1, m + 1).value_or(0.0);
     dihedral_by_root(c_lm, c_ll, c_mm)
 }
 
@@ -244,27 +241,20 @@ pub fn dihedral_values(d: [Dihedral; 10]) -> [f64; 10]
     ]
 }
 
-// The number of a dihedral's kind.
-fn kind_number(d: Dihedral) -> u8
-    ensures { λ r. ⌜ r ≡ kindNumberOf d ⌝ }
-{
-    d.kind().number()
-}
-
 // The numbers of their kinds.
 pub fn dihedral_kinds(d: [Dihedral; 10]) -> [u8; 10]
     ensures { λ r. ⌜ r ≡ map kindNumberOf d ⌝ }
 {
     [
-        kind_number(d[0]),
-        kind_number(d[1]),
-        kind_number(d[2]),
-        kind_number(d[3]),
-        kind_number(d[4]),
-        kind_number(d[5]),
-        kind_number(d[6]),
-        kind_number(d[7]),
-        kind_number(d[8]),
-        kind_number(d[9]),
+        d[0].kind_number(),
+        d[1].kind_number(),
+        d[2].kind_number(),
+        d[3].kind_number(),
+        d[4].kind_number(),
+        d[5].kind_number(),
+        d[6].kind_number(),
+        d[7].kind_number(),
+        d[8].kind_number(),
+        d[9].kind_number(),
     ]
 }

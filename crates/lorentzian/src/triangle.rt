@@ -5,7 +5,6 @@ ghost use mathlib.Core.Path.{_≡_};
 ghost use mathlib.Core.Logic.{_≢_};
 ghost use mathlib.Core.Bool.{false};
 ghost use Prim.Native.Nat.{_<_};
-ghost use lib.ListN.{getD};
 ghost use Rattle.lorentzian.specs.Triangle.{areaSq, areaSqGrad, edgeOf, edgeIdx, noTriangle, gradInPent, gradOutcome, gradAfter};
 
 // Signed squared area of the triangle of three signed squared lengths.
@@ -96,10 +95,8 @@ pub fn tri_area_sq_grad_in_pent(
     tri_local: [usize; 3],
     grad: &mut [f64; 10],
 ) -> Outcome
-    ensures { λ r. ⌜
-        (r ≡ gradOutcome (getD «tri_local» 0 0) (getD «tri_local» 1 0) (getD «tri_local» 2 0))
-        × (now (grad .exit) ≡ gradAfter (now (s .entry)) (getD «tri_local» 0 0) (getD «tri_local» 1 0) (getD «tri_local» 2 0) (now (grad .entry)))
-        ⌝ }
+    ensures { λ r. ⌜ r ≡ gradOutcome «tri_local» ⌝ }
+    ensures { λ r. ⌜ now (grad .exit) ≡ gradAfter (now (s .entry)) «tri_local» (now (grad .entry)) ⌝ }
 {
     let a = tri_local[0];
     let b = tri_local[1];

@@ -1,9 +1,9 @@
-// What the replay programs share: numbers read from hexadecimal digits, and doubles printed as their bits.
-use libc::STDOUT_FILENO;
+// What the replay programs share: numbers read from hexadecimal digits, and doubles as text.
 ghost use mathlib.Core.Path.{_≡_};
 ghost use Prim.Native.Nat.{_+_, _<_, _≤_};
 ghost use lib.ListN.{length, take, drop};
-ghost use Rattle.replay.specs.Hexadecimal.{digitOf, spelled, numberAt};
+ghost use Rattle.io.specs.Counts.{Counts};
+ghost use Rattle.replay.specs.Hexadecimal.{digitOf, spelled, numberAt, textOf};
 
 // The value of a hexadecimal digit in lower case, and 0 for any other byte.
 fn digit(b: u8) -> u64
@@ -50,11 +50,24 @@ pub fn number(s: &[u8], at: usize) -> u64
     spelled_at(s, at)
 }
 
-// Prints the bits of x as 16 hexadecimal digits, or nan.
-pub fn print_double(x: f64) {
+// The first `len` bytes are a text.
+pub struct Text {
+    pub bytes: [u8; 16],
+    pub len: usize,
+}
+
+// The bits of x as 16 hexadecimal digits, or nan.
+pub fn double_text(x: f64) -> Text
+    ensures { λ r. ⌜ Counts (r .len) (r .bytes) ⌝ }
+    ensures { λ r. ⌜ take (r .len) (r .bytes) ≡ textOf x ⌝ }
+{
+    let mut bytes = [0u8; 16];
     if floats::is_nan(x) {
-        io::write_all(STDOUT_FILENO, b"nan");
-        return;
+        bytes[0] = b'n';
+        bytes[1] = b'a';
+        bytes[2] = b'n';
+        return Text { bytes, len: 3 };
     }
-    io::print_hex(STDOUT_FILENO, floats::bits_of(x), 16);
+    let len = io::hex(floats::bits_of(x), 16, &mut bytes);
+    Text { bytes, len }
 }

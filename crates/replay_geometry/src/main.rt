@@ -46,13 +46,16 @@ fn lengths_at(text: &[u8], at: usize) -> [f64; 10]
 // A space and a number.
 fn print_number(x: f64) {
     io::write_all(STDOUT_FILENO, b" ");
-    replay::print_double(x);
+    let text = replay::double_text(x);
+    let bytes = text.bytes;
+    let len = text.len;
+    io::write_all(STDOUT_FILENO, &bytes[..len]);
 }
 
 // The number and the kind of a dihedral.
 fn print_dihedral(d: Dihedral) {
     print_number(d.value());
-    if d.kind().number() == 0 {
+    if d.kind_number() == 0 {
         io::write_all(STDOUT_FILENO, b" S");
         return;
     }

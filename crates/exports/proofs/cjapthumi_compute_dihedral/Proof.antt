@@ -9,16 +9,12 @@ compute-dihedral-requires c κs = search needs
 value-requires : tie.Need-value-requires
 value-requires c κs = search needs
 
-kind-requires : tie.Need-kind-requires
-kind-requires c κs = search needs
-
-number-requires : tie.Need-number-requires
-number-requires c κs = search needs
+kind-number-requires : tie.Need-kind-number-requires
+kind-number-requires c κs = search needs
 
 returns : tie.Need-returns
-returns c = (rw (c .number .ensures, c .before .kind .ensures, c .before .before .before .compute-dihedral .ensures), rw (c .before .before .value .ensures, c .before .before .before .compute-dihedral .ensures))
+returns c = (rw (c .kind-number .ensures, c .before .before .compute-dihedral .ensures), rw (c .before .value .ensures, c .before .before .compute-dihedral .ensures))
 
 pub cjapthumi-compute-dihedral-spec : {M : Type 1} → statement M
 cjapthumi-compute-dihedral-spec =
-    tie.close
-    (tie.spec compute-dihedral-requires value-requires kind-requires number-requires returns)
+    tie.close (tie.spec compute-dihedral-requires value-requires kind-number-requires returns)
