@@ -1,0 +1,151 @@
+-- The elements of lists that are kept, gathered or counted up. Assumes nothing.
+use mathlib.Core.Path.{_≡_, refl, sym, ap, _∙_, subst}
+use mathlib.Core.Logic.{_⊎_, inl, inr, ⊎-elim}
+use mathlib.Core.Bool.{Bool, true, false, cond}
+use mathlib.Core.List.{List, [], _∷_, _++_, map, append-assoc, List·Memᴰ, List·Memᴰ·head, List·Memᴰ·tail, List·Memᴰ·cases-cons, List·Memᴰ·append-cases, List·Memᴰ·eq-of-singleton, List·Memᴰ·not-nil, Memᴰ·append-left, Memᴰ·append-right, Memᴰ·cast}
+use Prim.Native.Nat.{ℕ, zero, suc, _+_, _<_, suc-le-suc}
+use native.Mathlib.Nat.{le-of-suc-le-suc, not-suc-le-zero, zero-lt-suc}
+use native.Mathlib.Omega.{arith}
+use lib.ListN.{length, getD, length-append, length-map, List·getD-append}
+use lib.Seq.{getD-append-seam}
+use Rattle.lists.specs.Lists.{keep, gather, upto, among, within, Within, Once}
+use Rattle.lists.proofs.Tests.{Says, pass, fail, eqb-says, ltb-says, and-says, or-says}
+
+module _ {A : Type 0} where
+  -- ---- places
+
+  pub getD-mem : (xs : List A) (i : ℕ) (d : A) → i < length xs → List·Memᴰ (getD xs i d) xs
+  getD-mem [] i d h = absurd (not-suc-le-zero h)
+  getD-mem (x ∷ xs) zero d h = List·Memᴰ·head refl
+  getD-mem (x ∷ xs) (suc i) d h = List·Memᴰ·tail (getD-mem xs i d (le-of-suc-le-suc h))
+
+  pub mem-getD : (d : A) {xs : List A} {a : A} → List·Memᴰ a xs → (i : ℕ) × (i < length xs) × (getD xs i d ≡ a)
+  mem-getD d (List·Memᴰ·head {xs = xs} e) = (zero, zero-lt-suc (length xs), sym e)
+  mem-getD d {a = a} (List·Memᴰ·tail {xs = xs} m) =
+      let r : (i : ℕ) × (i < length xs) × (getD xs i d ≡ a) = mem-getD d m in (suc (r .0), suc-le-suc (r .1), r .2)
+
+  -- an element of a list with no element twice has one place
+  pub once-place : (xs : List A) (i j : ℕ) (d : A) → Once xs → i < length xs → j < length xs → getD xs i d ≡ getD xs j d → i ≡ j
+  once-place [] i j d o hi hj e = absurd (not-suc-le-zero hi)
+  once-place (x ∷ xs) zero zero d o hi hj e = refl
+  once-place (x ∷ xs) zero (suc j) d o hi hj e = absurd (o .0 (Memᴰ·cast e (getD-mem xs j d (le-of-suc-le-suc hj))))
+  once-place (x ∷ xs) (suc i) zero d o hi hj e = absurd (o .0 (Memᴰ·cast (sym e) (getD-mem xs i d (le-of-suc-le-suc hi))))
+  once-place (x ∷ xs) (suc i) (suc j) d o hi hj e = ap suc (once-place xs i j d (o .1) (le-of-suc-le-suc hi) (le-of-suc-le-suc hj) e)
+
+  -- ---- `keep`
+
+  pub keep-mem : {P : A → Type 0} {q : A → Bool} → ((a : A) → Says (P a) (q a)) → (xs : List A) {a : A} → List·Memᴰ a xs → P a → List·Memᴰ a (keep q xs)
+  unfolding keep
+  keep-mem s [] m h = m
+  keep-mem {P} {q} s (x ∷ xs) {a} m h = go (s x) (keep-mem s xs) (List·Memᴰ·cases-cons m)
+    where
+      go : {b : Bool} → Says (P x) b → (List·Memᴰ a xs → P a → List·Memᴰ a (keep q xs)) → (a ≡ x) ⊎ List·Memᴰ a xs → List·Memᴰ a (cond b (x ∷ keep q xs) (keep q xs))
+      go (pass p) r (inl e) = List·Memᴰ·head e
+      go (pass p) r (inr n) = List·Memᴰ·tail (r n h)
+      go (fail f) r (inl e) = absurd (f (subst P e h))
+      go (fail f) r (inr n) = r n h
+
+  pub mem-keep : {P : A → Type 0} {q : A → Bool} → ((a : A) → Says (P a) (q a)) → (xs : List A) {a : A} → List·Memᴰ a (keep q xs) → List·Memᴰ a xs × P a
+  unfolding keep
+  mem-keep s [] m = absurd (List·Memᴰ·not-nil m)
+  mem-keep {P} {q} s (x ∷ xs) {a} m = go (s x) (mem-keep s xs) m
+    where
+      go : {b : Bool} → Says (P x) b → (List·Memᴰ a (keep q xs) → List·Memᴰ a xs × P a) → List·Memᴰ a (cond b (x ∷ keep q xs) (keep q xs)) → List·Memᴰ a (x ∷ xs) × P a
+      go (pass p) r n = ⊎-elim (λ e. (List·Memᴰ·head e, subst P (sym e) p)) (λ k. (List·Memᴰ·tail (r k .0), r k .1)) (List·Memᴰ·cases-cons n)
+      go (fail f) r n = (List·Memᴰ·tail (r n .0), r n .1)
+
+  pub keep-same : (p q : A → Bool) (xs : List A) → ((x : A) → List·Memᴰ x xs → p x ≡ q x) → keep p xs ≡ keep q xs
+  unfolding keep
+  keep-same p q [] h = refl
+  keep-same p q (x ∷ xs) h = rw (h x (List·Memᴰ·head refl), keep-same p q xs (λ y m. h y (List·Memᴰ·tail m)))
+
+  module _ {B : Type 0} where
+    -- ---- `gather` and `map`
+
+    pub gather-mem : (f : A → List B) {xs : List A} {a : A} {b : B} → List·Memᴰ a xs → List·Memᴰ b (f a) → List·Memᴰ b (gather f xs)
+    unfolding gather
+    gather-mem f {a} {b} (List·Memᴰ·head {xs = xs} e) n = Memᴰ·append-left (gather f xs) (subst (λ (y : A). List·Memᴰ b (f y)) e n)
+    gather-mem f (List·Memᴰ·tail {x} m) n = Memᴰ·append-right (f x) (gather-mem f m n)
+
+    pub mem-gather : (f : A → List B) (xs : List A) {b : B} → List·Memᴰ b (gather f xs) → (a : A) × List·Memᴰ a xs × List·Memᴰ b (f a)
+    unfolding gather
+    mem-gather f [] m = absurd (List·Memᴰ·not-nil m)
+    mem-gather f (x ∷ xs) {b} m =
+        ⊎-elim
+        (λ n. (x, List·Memᴰ·head refl, n))
+        (λ n. let r : (a : A) × List·Memᴰ a xs × List·Memᴰ b (f a) = mem-gather f xs n in (r .0, List·Memᴰ·tail (r .1), r .2))
+        (List·Memᴰ·append-cases (f x) m)
+
+    pub gather-append : (f : A → List B) (xs ys : List A) → gather f (xs ++ ys) ≡ gather f xs ++ gather f ys
+    unfolding gather
+    gather-append f [] ys = refl
+    gather-append f (x ∷ xs) ys = ap (λ r. f x ++ r) (gather-append f xs ys) ∙ sym (append-assoc (f x) (gather f xs) (gather f ys))
+
+    pub gather-snoc : (f : A → List B) (xs : List A) (y : A) → gather f (xs ++ y ∷ []) ≡ gather f xs ++ f y
+    unfolding gather
+    gather-snoc f xs y = gather-append f xs (y ∷ []) ∙ ap (λ (r : List B). gather f xs ++ r) (mathlib.Core.List.append-nil (f y))
+
+    -- two functions that agree on a list's elements make the same list of it
+    pub map-same : (f g : A → B) (xs : List A) → ((a : A) → List·Memᴰ a xs → f a ≡ g a) → map f xs ≡ map g xs
+    map-same f g [] h = refl
+    map-same f g (x ∷ xs) h = λ i. h x (List·Memᴰ·head refl) i ∷ map-same f g xs (λ a m. h a (List·Memᴰ·tail m)) i
+
+-- ---- `upto`
+
+pub length-upto : (n : ℕ) → length (upto n) ≡ n
+unfolding upto
+length-upto zero = refl
+length-upto (suc n) = length-append (upto n) (n ∷ []) ∙ omega (arith, length-upto n)
+
+pub upto-mem : (n i : ℕ) → i < n → List·Memᴰ i (upto n)
+unfolding upto
+upto-mem zero i h = absurd (not-suc-le-zero h)
+upto-mem (suc n) i h = go (ltb-says i n) (upto-mem n i)
+  where
+    go : {b : Bool} → Says (i < n) b → (i < n → List·Memᴰ i (upto n)) → List·Memᴰ i (upto n ++ n ∷ [])
+    go (pass l) r = Memᴰ·append-left (n ∷ []) (r l)
+    go (fail f) r = Memᴰ·append-right (upto n) (List·Memᴰ·head (omega arith))
+
+pub mem-upto : (n i : ℕ) → List·Memᴰ i (upto n) → i < n
+unfolding upto
+mem-upto zero i m = absurd (List·Memᴰ·not-nil m)
+mem-upto (suc n) i m =
+    ⊎-elim (λ k. let l : i < n = mem-upto n i k in omega arith) (λ k. let e : i ≡ n = List·Memᴰ·eq-of-singleton k in omega arith) (List·Memᴰ·append-cases (upto n) m)
+
+pub getD-upto : (n i d : ℕ) → i < n → getD (upto n) i d ≡ i
+unfolding upto
+getD-upto zero i d h = absurd (not-suc-le-zero h)
+getD-upto (suc n) i d h = go (ltb-says i n) (getD-upto n i d)
+  where
+    go : {b : Bool} → Says (i < n) b → (i < n → getD (upto n) i d ≡ i) → getD (upto n ++ n ∷ []) i d ≡ i
+    go (pass l) r = List·getD-append (upto n) (n ∷ []) d i (rw length-upto l) ∙ r l
+    go (fail f) r =
+        let e : i ≡ n = omega arith in
+        ap (λ (k : ℕ). getD (upto n ++ n ∷ []) k d) (e ∙ sym (length-upto n)) ∙ getD-append-seam (upto n) n [] d ∙ sym e
+
+-- a table of a rule: its entries
+pub getD-table : {B : Type 0} (f : ℕ → B) (n i : ℕ) (d : B) → i < n → getD (map f (upto n)) i d ≡ f i
+getD-table f n i d h = at (upto n) i (rw length-upto h) ∙ ap f (getD-upto n i zero h)
+  where
+    at : (xs : List ℕ) (i : ℕ) → i < length xs → getD (map f xs) i d ≡ f (getD xs i zero)
+    at [] i h = absurd (not-suc-le-zero h)
+    at (x ∷ xs) zero h = refl
+    at (x ∷ xs) (suc i) h = at xs i (le-of-suc-le-suc h)
+
+-- ---- `among` and `within`
+
+pub among-says : (v : ℕ) (p : List ℕ) → Says (List·Memᴰ v p) (among v p)
+unfolding among
+among-says v [] = fail List·Memᴰ·not-nil
+among-says v (x ∷ xs) = or-says List·Memᴰ·head List·Memᴰ·tail List·Memᴰ·cases-cons (eqb-says v x) (among-says v xs)
+
+pub within-says : (s p : List ℕ) → Says (Within s p) (within s p)
+unfolding within
+within-says [] p = pass (λ v m. absurd (List·Memᴰ·not-nil m))
+within-says (x ∷ s) p =
+    and-says
+    (λ h t v m. ⊎-elim (λ e. Memᴰ·cast e h) (t v) (List·Memᴰ·cases-cons m))
+    (λ w. w x (List·Memᴰ·head refl))
+    (λ w v m. w v (List·Memᴰ·tail m))
+    (among-says x p)
+    (within-says s p)

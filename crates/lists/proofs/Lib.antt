@@ -1,0 +1,8 @@
+-- Laws on lists, for proofs here and in the crates above.
+pub mod Tests
+pub mod Elements
+pub mod Keys
+pub mod Choices
+pub mod Rows
+pub mod Sorting
+pub mod Chains
