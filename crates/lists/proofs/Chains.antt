@@ -15,7 +15,7 @@ use Rattle.lists.specs.Rows.{rows}
 use Rattle.lists.specs.Chains.{mix, hash, chainAt, Indexed, Ready, Met}
 use Rattle.lists.proofs.Tests.{lt-or-ge, eq-or-ne}
 use Rattle.lists.proofs.Keys.{find-le, find-none, find-new, meet-old, meet-new, meet-distinct, fold-numbers}
-use Rattle.lists.proofs.Rows.{length-rows, rows-snoc, rows-agree, row-below}
+use Rattle.lists.proofs.Rows.{length-rows, rows-snoc, rows-agree}
 
 -- ---- the hash
 
@@ -351,10 +351,3 @@ ready-next w e e′ h h′ x x′ u u′ n m at at₁ c ts rd mt place l le lx l
       numbers = omega (arith, rd .numbers);
       few = omega (arith, rd .few);
     }
-
--- the part of a list that is row q
-pub part-row : (w q : ℕ) (xs : List ℕ) → take (w * q + w - w * q) (drop (w * q) xs) ≡ take w (drop (w * q) xs)
-part-row w q xs = let e : w * q + w - w * q ≡ w = omega arith in rw e refl
-
-pub length-part : (w q n : ℕ) (xs : List ℕ) → q < n → w * n ≤ length xs → length (take w (drop (w * q) xs)) ≡ w
-length-part w q n xs h r = length-take-le w (drop (w * q) xs) (omega (arith, row-below w q n h, length-drop (w * q) xs))

@@ -1,8 +1,11 @@
 -- Laws on lists, for proofs here and in the crates above.
 pub mod Tests
+pub mod Fronts
 pub mod Elements
 pub mod Keys
 pub mod Choices
 pub mod Rows
 pub mod Sorting
 pub mod Chains
+pub mod Grouped
+pub mod GroupSteps

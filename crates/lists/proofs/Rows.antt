@@ -113,3 +113,16 @@ over-take new old n e = take-at new (drop (length new) old) n e
 pub over-of : (new old xs : List ℕ) (n : ℕ) → take n xs ≡ new → length new ≡ n → drop n xs ≡ drop n old → xs ≡ over new old
 unfolding over
 over-of new old xs n a l b = sym (take-append-drop n xs) ∙ rw (l, a, b) refl
+
+-- ---- parts
+
+-- a part up to the end is the rest
+pub part-tail : (s : List ℕ) (k : ℕ) → take (length s - k) (drop k s) ≡ drop k s
+part-tail s k = take-all (length s - k) (drop k s) (rw length-drop (omega arith))
+
+-- the part of a list that is row q
+pub part-row : (w q : ℕ) (xs : List ℕ) → take (w * q + w - w * q) (drop (w * q) xs) ≡ take w (drop (w * q) xs)
+part-row w q xs = let e : w * q + w - w * q ≡ w = omega arith in rw e refl
+
+pub length-part : (w q n : ℕ) (xs : List ℕ) → q < n → w * n ≤ length xs → length (take w (drop (w * q) xs)) ≡ w
+length-part w q n xs h r = length-take-le w (drop (w * q) xs) (omega (arith, row-below w q n h, length-drop (w * q) xs))

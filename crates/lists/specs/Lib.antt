@@ -5,3 +5,4 @@ pub mod Rows
 pub mod Sorting
 pub mod Chains
 pub mod Groups
+pub mod GroupSteps

@@ -1,5 +1,8 @@
-// Rows of numbers in flat lists: searched by chains, numbered by first meeting.
+// Rows of numbers in flat lists: searched by chains, numbered by first meeting. Numbers grouped by their places.
+mod groups;
 mod numbering;
 
+pub use groups::group;
+pub use numbering::chain_of;
 pub use numbering::find_row;
 pub use numbering::meet_rows;

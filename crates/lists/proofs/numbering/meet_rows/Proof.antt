@@ -8,8 +8,8 @@ use lib.ListN.{length, getD, take, drop, set, length-set, length-take, length-dr
 use borrow.Author.Needs.{needs}
 use Rattle.lists.specs.Chains.{Ready, Met}
 use Rattle.lists.specs.Rows.{rows}
-use Rattle.lists.proofs.Chains.{met-none, met-trans, ready-next, part-row, length-part}
-use Rattle.lists.proofs.Rows.{length-rows, rows-snoc, row-below}
+use Rattle.lists.proofs.Chains.{met-none, met-trans, ready-next}
+use Rattle.lists.proofs.Rows.{length-rows, rows-snoc, row-below, part-row, length-part}
 use Rattle.lists.proofs.numbering.meet_rows.Statement.{statement}
 use Rattle.lists.proofs.numbering.meet_rows.Tie as tie
 

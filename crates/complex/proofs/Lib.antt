@@ -1,0 +1,2 @@
+-- Laws on complexes, for proofs here and in the crates above.
+pub mod Offences

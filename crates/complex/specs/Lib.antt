@@ -1,0 +1,4 @@
+-- The definitions that contracts on complexes cite.
+pub mod Complex
+pub mod Builder
+pub mod Parts

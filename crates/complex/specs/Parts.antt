@@ -1,0 +1,1 @@
+-- What the parts of the builder need and leave. Definitions only.

@@ -1,0 +1,8 @@
+// The faces of pentachorons, numbered by first meeting.
+
+// The kinds of faces that are numbered.
+pub enum Face {
+    Edge,
+    Triangle,
+    Tet,
+}
