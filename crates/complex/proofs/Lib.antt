@@ -1,2 +1,4 @@
 -- Laws on complexes, for proofs here and in the crates above.
 pub mod Offences
+pub mod Sorted
+pub mod Meetings

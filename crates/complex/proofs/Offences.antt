@@ -19,7 +19,7 @@ use Rattle.complex.specs.Builder.{tooLarge, repeats, offence}
 pub offence-turn : (n k c : ℕ) (ps : List ℕ) → k < c
     → offence n k (rows 5 (c - k) (drop (5 * k) ps))
     ≡ cond (tooLarge n (take 5 (drop (5 * k) ps))) (Refused (VertexTooLarge k))
-      (cond (repeats (take 5 (drop (5 * k) ps))) (Refused (RepeatedVertex k)) (offence n (k + 1) (rows 5 (c - (k + 1)) (drop (5 * (k + 1)) ps))))
+    (cond (repeats (take 5 (drop (5 * k) ps))) (Refused (RepeatedVertex k)) (offence n (k + 1) (rows 5 (c - (k + 1)) (drop (5 * (k + 1)) ps))))
 unfolding offence rows
 offence-turn n k c ps h =
     let a : c - k ≡ suc (c - (k + 1)) = omega arith in

@@ -115,7 +115,7 @@ written ps =
       edgeToTris = flat (edgeToTris ps);
       edgeToTrisStarts = starts (edgeToTris ps);
       edgeToPents = flat (edgeToPents ps);
-      edgeToPentsStarts = starts (edgeToPents ps)
+      edgeToPentsStarts = starts (edgeToPents ps);
     }
 
 -- each list with new content written over its beginning
@@ -131,7 +131,7 @@ overAll new old =
       edgeToTris = over (new .edgeToTris) (old .edgeToTris);
       edgeToTrisStarts = over (new .edgeToTrisStarts) (old .edgeToTrisStarts);
       edgeToPents = over (new .edgeToPents) (old .edgeToPents);
-      edgeToPentsStarts = over (new .edgeToPentsStarts) (old .edgeToPentsStarts)
+      edgeToPentsStarts = over (new .edgeToPentsStarts) (old .edgeToPentsStarts);
     }
 
 -- the lists after the call, by the answer of the checks: unchanged where it refuses
@@ -152,7 +152,7 @@ roomsOf l =
       «edge_to_tris_items» = length (l .edgeToTris);
       «edge_to_tris_starts» = length (l .edgeToTrisStarts);
       «edge_to_pents_items» = length (l .edgeToPents);
-      «edge_to_pents_starts» = length (l .edgeToPentsStarts)
+      «edge_to_pents_starts» = length (l .edgeToPentsStarts);
     }
 
 -- the builder at vertex count n and a pentachoron list: the answer r, and the lists after it

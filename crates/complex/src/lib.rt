@@ -1,6 +1,7 @@
 // The complex of a list of pentachorons: faces numbered by first meeting, and adjacency lists.
 mod checks;
 mod numbering;
+mod sorting;
 
 // How many of each kind a complex has.
 pub struct Counts {
@@ -16,4 +17,5 @@ pub enum Built {
     Done(Counts),
     Refused(Refusal),
 }
+
 use refusals::Refusal;

@@ -1,8 +1,195 @@
 // The faces of pentachorons, numbered by first meeting.
+use lists::meet_rows;
+ghost use mathlib.Core.Path.{_≡_};
+ghost use mathlib.Core.List.{[], _∷_};
+ghost use Prim.Native.Nat.{_+_, _/_, _≤_};
+ghost use lib.ListN.{length, take, drop};
+ghost use Rattle.lists.specs.Lists.{combos};
+ghost use Rattle.lists.specs.Rows.{rows};
+ghost use Rattle.complex.specs.Complex.{widthOf, countOf, facesOf};
+ghost use Rattle.complex.specs.Parts.{Faces, Numbered};
 
 // The kinds of faces that are numbered.
 pub enum Face {
     Edge,
     Triangle,
     Tet,
+}
+
+impl Face {
+    // How many vertices a face has.
+    fn width(self) -> usize
+        ensures { λ r. ⌜ r ≡ widthOf self ⌝ }
+    {
+        match self {
+            Face::Edge => 2,
+            Face::Triangle => 3,
+            Face::Tet => 4,
+        }
+    }
+
+    // How many such faces a pentachoron has.
+    fn count(self) -> usize
+        ensures { λ r. ⌜ r ≡ countOf self ⌝ }
+    {
+        match self {
+            Face::Edge => 10,
+            Face::Triangle => 10,
+            Face::Tet => 5,
+        }
+    }
+
+    // The faces of a pentachoron, in the order of the Rust's loops.
+    fn rows(self, a: u32, b: u32, c: u32, d: u32, e: u32) -> [u32; 30]
+        ensures { λ r. ⌜ rows (widthOf self) (countOf self) r ≡ facesOf self (a ∷ b ∷ c ∷ d ∷ e ∷ []) ⌝ }
+    {
+        match self {
+            Face::Edge => [
+                a,
+                b,
+                a,
+                c,
+                a,
+                d,
+                a,
+                e,
+                b,
+                c,
+                b,
+                d,
+                b,
+                e,
+                c,
+                d,
+                c,
+                e,
+                d,
+                e,
+                0,
+                0,
+                0,
+                0,
+                0,
+                0,
+                0,
+                0,
+                0,
+                0,
+            ],
+            Face::Triangle => [
+                a,
+                b,
+                c,
+                a,
+                b,
+                d,
+                a,
+                b,
+                e,
+                a,
+                c,
+                d,
+                a,
+                c,
+                e,
+                a,
+                d,
+                e,
+                b,
+                c,
+                d,
+                b,
+                c,
+                e,
+                b,
+                d,
+                e,
+                c,
+                d,
+                e,
+            ],
+            Face::Tet => [
+                b,
+                c,
+                d,
+                e,
+                a,
+                c,
+                d,
+                e,
+                a,
+                b,
+                d,
+                e,
+                a,
+                b,
+                c,
+                e,
+                a,
+                b,
+                c,
+                d,
+                0,
+                0,
+                0,
+                0,
+                0,
+                0,
+                0,
+                0,
+                0,
+                0,
+            ],
+        }
+    }
+
+    // The faces of the pentachoron at `at`.
+    fn rows_at(self, pents: &[u32], at: usize) -> [u32; 30]
+        requires { ⌜ at + 5 ≤ length (now pents) ⌝ }
+        ensures { λ r. ⌜ rows (widthOf self) (countOf self) r ≡ facesOf self (take 5 (drop at (now (pents .entry)))) ⌝ }
+    {
+        self.rows(
+            pents[at],
+            pents[at + 1],
+            pents[at + 2],
+            pents[at + 3],
+            pents[at + 4],
+        )
+    }
+}
+
+// The faces of all pentachorons are numbered. `next` links the chains of the search; `numbers` gets the number of each face
+// as it is met. Answers how many faces there are.
+pub fn number_faces(
+    face: Face,
+    pents: &[u32],
+    list: &mut [u32],
+    next: &mut [u32],
+    numbers: &mut [u32],
+) -> usize
+    requires { ⌜ Faces face (length (now pents) / 5) (length (now pents)) (length (now list)) (length (now next)) (length (now numbers)) ⌝ }
+    ensures { λ r. ⌜ Numbered face (rows 5 (length (now (pents .entry)) / 5) (now (pents .entry))) (now (list .entry)) (now (list .exit)) (now (numbers .entry)) (now (numbers .exit)) r ⌝ }
+{
+    let pentachorons = pents.len() / 5;
+    let w = face.width();
+    let count = face.count();
+    let mut head = [0u32; 32768];
+    let mut n = 0;
+    let mut k = 0;
+    while k < pentachorons {
+        let given = face.rows_at(pents, 5 * k);
+        n = meet_rows(
+            list,
+            &mut head,
+            next,
+            n,
+            &given,
+            w,
+            count,
+            numbers,
+            count * k,
+        );
+        k += 1;
+    }
+    n
 }

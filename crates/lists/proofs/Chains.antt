@@ -8,14 +8,14 @@ use native.Mathlib.Nat.{add-zero, mul-suc, mul-le-mul-left}
 use native.Mathlib.Numerals.{add-one}
 use native.Mathlib.Omega.{arith}
 use lib.Dec.{eqb}
-use lib.ListN.{length, getD, take, drop, set, length-append, length-set, length-drop, length-map, take-append-drop, List·getD-append}
+use lib.ListN.{length, getD, take, drop, set, replicate, length-replicate, length-append, length-set, length-drop, length-map, take-append-drop, List·getD-append}
 use lib.Seq.{append-snoc, drop-cons, take-suc, take-all, getD-set-same, getD-set-other, getD-at, drop-drop, take-at, drop-at, length-take-le, set-split, take-add, take-append-le, drop-append-le}
-use Rattle.lists.specs.Keys.{eqs, find, meet, Distinct}
-use Rattle.lists.specs.Rows.{rows}
+use Rattle.lists.specs.Keys.{eqs, find, meet, firsts, Distinct}
+use Rattle.lists.specs.Rows.{flat, rows, over}
 use Rattle.lists.specs.Chains.{mix, hash, chainAt, Indexed, Ready, Met}
 use Rattle.lists.proofs.Tests.{lt-or-ge, eq-or-ne}
 use Rattle.lists.proofs.Keys.{find-le, find-none, find-new, meet-old, meet-new, meet-distinct, fold-numbers}
-use Rattle.lists.proofs.Rows.{length-rows, rows-snoc, rows-agree}
+use Rattle.lists.proofs.Rows.{length-rows, rows-snoc, rows-agree, flat-rows, over-of}
 
 -- ---- the hash
 
@@ -337,13 +337,56 @@ module _ (w : ℕ) (e e₁ h₁ x₁ e₂ h₂ x₂ u u₁ u₂ : List ℕ) (n m
         indexed = q .indexed;
       }
 
--- ---- room for one row more, while rows are met
+-- ---- from no rows on
 
-pub ready-next : (w : ℕ) (e e′ h h′ x x′ u u′ : List ℕ) (n m at at₁ c : ℕ) (ts : List (List ℕ)) → Ready w e h x u n at c → Met w e e′ h′ x′ u u′ n at ts m
-    → at₁ ≡ at + length ts → length ts < c → length e′ ≡ length e → length x′ ≡ length x → length u′ ≡ length u → Ready w e′ h′ x′ u′ m at₁ 1
-ready-next w e e′ h h′ x x′ u u′ n m at at₁ c ts rd mt place l le lx lu =
-    let k : m + 1 ≤ n + c = omega (arith, mt .to) in
-    let b : w * (m + 1) ≤ w * (n + c) = mul-le-mul-left w k in
+zeros : (m a : ℕ) → _≡_ {A = ℕ} (getD (replicate m 0) a 0) 0
+zeros zero a = refl
+zeros (suc m) zero = refl
+zeros (suc m) (suc a) = zeros m a
+
+-- with no row, zeros chain
+pub indexed-none : (h x : List ℕ) (m : ℕ) → m ≡ 32768 → h ≡ replicate m 0 → Indexed [] h x
+indexed-none h x m many q =
+    let none : (a : ℕ) → _≡_ {A = ℕ} (getD h a 0) 0 = λ a. ap (λ (l : List ℕ). getD l a 0) q ∙ zeros m a in
+    record {
+      distinct = λ i l. absurd (omega arith);
+      chains = ap length q ∙ length-replicate m 0 ∙ many;
+      links = omega arith;
+      head-le = λ a. omega (arith, none a);
+      head-in = λ a p. absurd (omega (arith, none a));
+      head-last = λ a j b lo hi. absurd (omega arith);
+      next-le = λ k l. absurd (omega arith);
+      next-in = λ k l. absurd (omega arith);
+      next-last = λ k j l. absurd (omega arith);
+    }
+
+-- the rows are numbered by first meeting
+module _ (w : ℕ) (e e′ h x u u′ : List ℕ) (ts : List (List ℕ)) (r : ℕ) (p : Met w e e′ h x u u′ 0 0 ts r) where
+  pub met-firsts : rows w r e′ ≡ firsts ts
+  unfolding rows firsts
+  met-firsts = p .known
+
+  pub met-count : r ≡ length (firsts ts)
+  met-count = sym (length-rows w r e′) ∙ ap length met-firsts
+
+  pub met-rows : w * r ≤ length e′ → e′ ≡ over (flat (firsts ts)) e
+  met-rows room =
+      let f : take (w * r) e′ ≡ flat (firsts ts) = sym (flat-rows w r e′ room) ∙ ap flat met-firsts in
+      over-of (flat (firsts ts)) e e′ (w * r) f (ap length (sym f) ∙ length-take-le (w * r) e′ room) (p .tail)
+
+  pub met-numbers : u′ ≡ over (map (λ s. find s (firsts ts)) ts) u
+  unfolding over
+  met-numbers =
+      let z : 0 + length ts ≡ length (map (λ s. find s (firsts ts)) ts) = omega (arith, length-map ts (λ s. find s (firsts ts))) in
+      p .numbered ∙ rw met-firsts (ap (λ (i : ℕ). map (λ s. find s (firsts ts)) ts ++ drop i u) z)
+
+-- ---- room for rows more, while rows are met
+
+pub ready-next : (w : ℕ) (e e′ h h′ x x′ u u′ : List ℕ) (n m at at₁ c d : ℕ) (ts : List (List ℕ)) → Ready w e h x u n at c → Met w e e′ h′ x′ u u′ n at ts m
+    → at₁ ≡ at + length ts → length ts + d ≤ c → length e′ ≡ length e → length x′ ≡ length x → length u′ ≡ length u → Ready w e′ h′ x′ u′ m at₁ d
+ready-next w e e′ h h′ x x′ u u′ n m at at₁ c d ts rd mt place l le lx lu =
+    let k : m + d ≤ n + c = omega (arith, mt .to) in
+    let b : w * (m + d) ≤ w * (n + c) = mul-le-mul-left w k in
     record {
       indexed = mt .indexed;
       room = omega (arith, rd .room);

@@ -44,7 +44,7 @@ too-large-requires : tie.Need-too-large-requires Inv-loop μ-loop
 too-large-requires c κs = search needs
 
 returns : tie.Need-returns Inv-loop μ-loop
-returns c = 
+returns c =
     let a = (c .before .before .before .before .before .before .args) in
     let l = (c .before .before .before .before .loop) in
     let turn = offence-turn (a .n) (l .k) (length (a .given .now) / 5) (a .given .now) (omega arith) in
@@ -67,7 +67,7 @@ repeats-requires : tie.Need-repeats-requires Inv-loop μ-loop
 repeats-requires c κs = search needs
 
 returns-2 : tie.Need-returns-2 Inv-loop μ-loop
-returns-2 c = 
+returns-2 c =
     let a = (c .before .before .before .before .before .before .before .before .before .args) in
     let l = (c .before .before .before .before .before .before .before .loop) in
     let turn = offence-turn (a .n) (l .k) (length (a .given .now) / 5) (a .given .now) (omega arith) in
@@ -81,7 +81,7 @@ loop-less : tie.Need-loop-less Inv-loop μ-loop
 loop-less c = search needs
 
 loop-again : tie.Need-loop-again Inv-loop μ-loop
-loop-again c = 
+loop-again c =
     let a = (c .before .before .before .before .before .before .before .before .before .args) in
     let l = (c .before .before .before .before .before .before .before .loop) in
     let turn = offence-turn (a .n) (l .k) (length (a .given .now) / 5) (a .given .now) (omega arith) in
@@ -90,7 +90,7 @@ loop-again c =
 
 returns-3 : tie.Need-returns-3 Inv-loop μ-loop
 unfolding offence rows
-returns-3 c = 
+returns-3 c =
     let l = (c .before .loop) in
     let e : length ((c .before .before .before .args) .given .now) / 5 - l .k ≡ 0 = omega arith in
     sym (l .inv .1 ∙ rw e refl)

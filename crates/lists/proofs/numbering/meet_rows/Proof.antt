@@ -89,7 +89,7 @@ meet-row-requires c κs =
     let part = part-row (a .w) (l .q) (a .given .now) in
     let size = length-part (a .w) (l .q) (a .count) (a .given .now) (omega arith) (p .0) in
     rw (part, size)
-    (ready-next (a .w) (a .list .now) (l .list) (a .head .now) (l .head) (a .next .now) (l .next) (a .numbers .now) (l .numbers) (a .n) (l .m) (a .at) (a .at + l .q) (a .count) (rows (a .w) (l .q) (a .given .now))
+    (ready-next (a .w) (a .list .now) (l .list) (a .head .now) (l .head) (a .next .now) (l .next) (a .numbers .now) (l .numbers) (a .n) (l .m) (a .at) (a .at + l .q) (a .count) 1 (rows (a .w) (l .q) (a .given .now))
     (p .1) (l .inv .5) (omega arith) (omega arith) (l .inv .1) (l .inv .3) (l .inv .4))
 
 add-q : tie.Need-add-q Inv-loop μ-loop
