@@ -2,3 +2,4 @@
 pub mod Offences
 pub mod Sorted
 pub mod Meetings
+pub mod TriangleEdges

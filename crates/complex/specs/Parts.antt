@@ -1,8 +1,8 @@
 -- What the parts of the builder ask and leave. Definitions only.
-use Prim.Native.Nat.{ℕ, _*_, _≤_}
+use Prim.Native.Nat.{ℕ, _+_, _*_, _/_, _%_, _≤_, _<_}
 use mathlib.Core.Path.{_≡_}
-use mathlib.Core.List.{List, map}
-use lib.ListN.{length}
+use mathlib.Core.List.{List, [], _∷_, map}
+use lib.ListN.{length, getD}
 use Rattle.lists.specs.Keys.{find}
 use Rattle.lists.specs.Rows.{flat, rows, over}
 use Rattle.complex.specs.declared.numbering.Face.{Face}
@@ -25,3 +25,25 @@ pub record Numbered (f : Face) (ps : List (List ℕ)) (list list′ numbers numb
   pub count : r ≡ length (faces f ps)
   pub rows : list′ ≡ over (flat (faces f ps)) list
   pub noted : numbers′ ≡ over (numbersOf f ps) numbers
+
+-- ---- the edges of triangles
+
+-- where each triangle's three edges stand among the ten edges of its pentachoron
+abbrev pub edgePlaces : List ℕ
+edgePlaces =
+    0 ∷ 1 ∷ 4 ∷ 0 ∷ 2 ∷ 5 ∷ 0 ∷ 3 ∷ 6 ∷ 1 ∷ 2 ∷ 7 ∷ 1 ∷ 3 ∷ 8 ∷ 2 ∷ 3 ∷ 9 ∷ 4 ∷ 5 ∷ 7 ∷ 4 ∷ 6 ∷ 8 ∷ 5 ∷ 6 ∷ 9 ∷ 7 ∷ 8 ∷ 9 ∷ []
+
+-- the number of edge i of the triangle that is met as the k-th, by the edge numbers of its pentachoron
+unfoldable pub edgeAt : List ℕ → ℕ → ℕ → ℕ
+edgeAt pe k i = getD pe (10 * (k / 10) + getD edgePlaces (3 * (k % 10) + i) 0) 0
+
+-- the edge numbers pe and triangle numbers pt of whole pentachorons; a triangle has the same edges wherever it is met, and room for them
+pub record Consistent (pe pt : List ℕ) (room : ℕ) : Type 0 where
+  pub whole : length pt % 10 ≡ 0
+  pub alike : length pe ≡ length pt
+  pub places : (k : ℕ) → k < length pt → 3 * getD pt k 0 + 3 ≤ room
+  pub same : (j k i : ℕ) → j < length pt → k < length pt → i < 3 → getD pt j 0 ≡ getD pt k 0 → edgeAt pe j i ≡ edgeAt pe k i
+
+-- the triangles that are met before the n-th have the numbers of their edges in te
+pub record EdgesOf (pe pt te : List ℕ) (n : ℕ) : Type 0 where
+  pub edge : (k i : ℕ) → k < n → i < 3 → getD te (3 * getD pt k 0 + i) 0 ≡ edgeAt pe k i

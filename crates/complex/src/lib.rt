@@ -1,4 +1,5 @@
 // The complex of a list of pentachorons: faces numbered by first meeting, and adjacency lists.
+mod adjacency;
 mod checks;
 mod numbering;
 mod sorting;

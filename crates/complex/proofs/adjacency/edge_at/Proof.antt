@@ -1,0 +1,61 @@
+-- `complex::adjacency::edge_at` meets its contract. Assumes nothing.
+use Prim.Native.Nat.{ℕ, zero, suc, _+_, _*_, _-_, _/_, _%_, _≤_, _<_}
+use mathlib.Core.Path.{_≡_, refl, sym, ap, _∙_}
+use native.Mathlib.Omega.{arith}
+use lib.ListN.{length, getD}
+use borrow.Author.Needs.{needs}
+use Rattle.complex.specs.Parts.{edgeAt}
+use Rattle.complex.proofs.TriangleEdges.{place-below}
+use Rattle.complex.proofs.adjacency.edge_at.Statement.{statement}
+use Rattle.complex.proofs.adjacency.edge_at.Tie as tie
+
+mul-place : tie.Need-mul-place
+mul-place c = search needs
+
+add-place : tie.Need-add-place
+add-place c = search needs
+
+mul-place-2 : tie.Need-mul-place-2
+mul-place-2 c = search needs
+
+array-read-place : tie.Need-array-read-place
+array-read-place c = search needs
+
+mul-result : tie.Need-mul-result
+mul-result c = search needs
+
+add-result : tie.Need-add-result
+add-result c =
+    let a = (c .args) in
+    let b = place-below (3 * (a .k % 10) + a .i) in
+    omega arith
+
+mul-result-2 : tie.Need-mul-result-2
+mul-result-2 c =
+    let a = (c .args) in
+    let b = place-below (3 * (a .k % 10) + a .i) in
+    omega arith
+
+shared-slice-read-result : tie.Need-shared-slice-read-result
+shared-slice-read-result c =
+    let a = (c .before .args) in
+    let b = place-below (3 * (a .k % 10) + a .i) in
+    omega arith
+
+returns : tie.Need-returns
+unfolding edgeAt
+returns c = refl
+
+pub edge-at-spec : {M : Type 1} → statement M
+edge-at-spec =
+    tie.close
+    (tie.spec
+    mul-place
+    add-place
+    mul-place-2
+    array-read-place
+    mul-result
+    add-result
+    mul-result-2
+    shared-slice-read-result
+    returns)

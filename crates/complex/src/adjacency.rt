@@ -1,0 +1,66 @@
+// The adjacency lists, from the numbers of the edges and triangles of each pentachoron.
+use lists::group;
+ghost use mathlib.Core.Path.{_≡_};
+ghost use Prim.Native.Nat.{_*_, _%_, _<_};
+ghost use lib.ListN.{length, take};
+ghost use Rattle.lists.specs.Rows.{flat, starts, over};
+ghost use Rattle.lists.specs.Groups.{groups};
+ghost use Rattle.complex.specs.Parts.{edgeAt, Consistent, EdgesOf};
+
+// Where each triangle's three edges stand among the ten edges of its pentachoron.
+const TRI_EDGES: [usize; 30] = [
+    0,
+    1,
+    4,
+    0,
+    2,
+    5,
+    0,
+    3,
+    6,
+    1,
+    2,
+    7,
+    1,
+    3,
+    8,
+    2,
+    3,
+    9,
+    4,
+    5,
+    7,
+    4,
+    6,
+    8,
+    5,
+    6,
+    9,
+    7,
+    8,
+    9,
+];
+
+// The number of edge i of the triangle that is met as the k-th.
+fn edge_at(pent_edges: &[u32], k: usize, i: usize) -> u32
+    requires { ⌜ (length (now «pent_edges») % 10 ≡ 0) × (k < length (now «pent_edges»)) × (i < 3) ⌝ }
+    ensures { λ r. ⌜ r ≡ edgeAt (now («pent_edges» .entry)) k i ⌝ }
+{
+    let place = TRI_EDGES[3 * (k % 10) + i];
+    pent_edges[10 * (k / 10) + place]
+}
+
+// The numbers of the three edges of each triangle, read from every pentachoron in which it lies.
+fn edges_of_triangles(pent_edges: &[u32], pent_tris: &[u32], tri_edges: &mut [u32])
+    requires { ⌜ Consistent (now «pent_edges») (now «pent_tris») (length (now «tri_edges»)) ⌝ }
+    ensures { λ _. ⌜ EdgesOf (now («pent_edges» .entry)) (now («pent_tris» .entry)) (now («tri_edges» .exit)) (length (now («pent_tris» .entry))) ⌝ }
+{
+    let mut k = 0;
+    while k < pent_tris.len() {
+        let to = 3 * pent_tris[k] as usize;
+        tri_edges[to] = edge_at(pent_edges, k, 0);
+        tri_edges[to + 1] = edge_at(pent_edges, k, 1);
+        tri_edges[to + 2] = edge_at(pent_edges, k, 2);
+        k += 1;
+    }
+}

@@ -1,0 +1,3 @@
+//! The root of the copy of the Rust.
+pub mod complex;
+pub mod foliation;
