@@ -1,5 +1,5 @@
 -- The numbers of the edges of triangles, stored triangle after triangle. Assumes nothing.
-use Prim.Native.Nat.{ℕ, zero, suc, _+_, _*_, _≤_, _<_, suc-le-suc}
+use Prim.Native.Nat.{ℕ, zero, suc, _+_, _*_, _/_, _%_, _≤_, _<_}
 use mathlib.Core.Path.{_≡_, refl, sym, ap, _∙_}
 use mathlib.Core.Bool.{Bool, true, false, _&&_}
 use mathlib.Core.Logic.{_⊎_, inl, inr, ⊎-elim}
@@ -7,10 +7,11 @@ use mathlib.Core.List.{List, [], _∷_}
 use native.Mathlib.Nat.{le-of-suc-le-suc, not-suc-le-zero}
 use native.Mathlib.Omega.{arith}
 use lib.Dec.{T, ltb, ltb→lt}
-use lib.ListN.{length, getD, set, length-set}
-use lib.Seq.{getD-set-same, getD-set-other}
+use lib.ListN.{length, getD, take, set, length-set}
+use lib.Seq.{getD-set-same, getD-set-other, getD-take, length-take-le}
+use Rattle.lists.specs.Groups.{Below, Grouping}
 use Rattle.lists.proofs.Tests.{lt-or-ge, eq-or-ne}
-use Rattle.complex.specs.Parts.{edgePlaces, edgeAt, Consistent, EdgesOf}
+use Rattle.complex.specs.Parts.{edgePlaces, edgeAt, Consistent, EdgesOf, Lent, Adjacent}
 
 -- ---- the table of places
 
@@ -111,3 +112,34 @@ module _ (pe pt te : List ℕ) (k room : ℕ) (ok : Consistent pe pt room) (insi
   pub edges-turn : EdgesOf pe pt (set (set (set te (3 * getD pt k 0) (edgeAt pe k 0)) (3 * getD pt k 0 + 1) (edgeAt pe k 1)) (3 * getD pt k 0 + 2) (edgeAt pe k 2)) (k + 1)
   unfolding stored t
   edges-turn = record { edge = all }
+
+-- ---- the numbers of edges, triangle after triangle
+
+-- a number of an edge that is met is a number of an edge
+pub edge-at-below : (pe pt : List ℕ) (E room k i : ℕ) → Consistent pe pt room → Below pe E → k < length pt → i < 3 → edgeAt pe k i < E
+unfolding edgeAt
+edge-at-below pe pt E room k i ok below hk hi =
+    below (10 * (k / 10) + getD edgePlaces (3 * (k % 10) + i) 0) (omega (arith, ok .whole, ok .alike, place-below (3 * (k % 10) + i)))
+
+module _ (pe pt te : List ℕ) (E T scratch : ℕ) (lent : Lent) (adj : Adjacent pe pt E T scratch lent) (long : length te ≡ scratch) (edges : EdgesOf pe pt te (length pt)) where
+  pub length-triangles : length (take (3 * T) te) ≡ 3 * T
+  length-triangles = length-take-le (3 * T) te (omega (arith, adj .tris))
+
+  triangles-below : Below (take (3 * T) te) E
+  triangles-below p h =
+      let b : p < 3 * T = omega (arith, length-triangles) in
+      let m = adj .tri-met (p / 3) (omega arith) in
+      let z : 3 * (p / 3) + p % 3 ≡ p = omega arith in
+      let e : getD te p 0 ≡ edgeAt pe (m .0) (p % 3) =
+        ap (λ (q : ℕ). getD te q 0) (sym z) ∙ ap (λ (t : ℕ). getD te (3 * t + p % 3) 0) (sym (m .2)) ∙ edges .edge (m .0) (p % 3) (m .1) (omega arith) in
+      omega (arith, getD-take (3 * T) te p 0 b, e, edge-at-below pe pt E scratch (m .0) (p % 3) (adj .consistent) (adj .edge-below) (m .1) (omega arith))
+
+  pub can-group-triangles : (i s : ℕ) → 3 * T ≤ i → E < s → Grouping (take (3 * T) te) 3 E i s
+  can-group-triangles i s room starts =
+      record {
+        width = omega arith;
+        few = omega (arith, length-triangles, adj .most);
+        below = triangles-below;
+        room = omega (arith, length-triangles);
+        room-starts = starts
+      }

@@ -5,6 +5,7 @@ use mathlib.Core.List.{List, [], _∷_, map}
 use lib.ListN.{length, getD}
 use Rattle.lists.specs.Keys.{find}
 use Rattle.lists.specs.Rows.{flat, rows, over}
+use Rattle.lists.specs.Groups.{Below}
 use Rattle.complex.specs.declared.numbering.Face.{Face}
 use Rattle.complex.specs.Complex.{widthOf, countOf, metFaces, faces}
 
@@ -47,3 +48,30 @@ pub record Consistent (pe pt : List ℕ) (room : ℕ) : Type 0 where
 -- the triangles that are met before the n-th have the numbers of their edges in te
 pub record EdgesOf (pe pt te : List ℕ) (n : ℕ) : Type 0 where
   pub edge : (k i : ℕ) → k < n → i < 3 → getD te (3 * getD pt k 0 + i) 0 ≡ edgeAt pe k i
+
+-- ---- adjacency
+
+-- the lengths of the lent adjacency lists: items and starts of each
+pub record Lent : Type 0 where
+  pub triToPents : ℕ
+  pub triToPentsStarts : ℕ
+  pub edgeToTris : ℕ
+  pub edgeToTrisStarts : ℕ
+  pub edgeToPents : ℕ
+  pub edgeToPentsStarts : ℕ
+
+-- the edge numbers pe and triangle numbers pt of whole pentachorons, E edges and T triangles in all: each triangle is met, and the lists have room
+pub record Adjacent (pe pt : List ℕ) (E T scratch : ℕ) (lent : Lent) : Type 0 where
+  pub consistent : Consistent pe pt scratch
+  pub edge-below : Below pe E
+  pub tri-below : Below pt T
+  pub tri-met : (t : ℕ) → t < T → (k : ℕ) × (k < length pt) × (getD pt k 0 ≡ t)
+  pub few : length pt ≤ 81920
+  pub tris : 3 * T ≤ scratch
+  pub most : T ≤ 81920
+  pub room-tp : length pt ≤ lent .triToPents
+  pub room-tp-starts : T < lent .triToPentsStarts
+  pub room-et : 3 * T ≤ lent .edgeToTris
+  pub room-et-starts : E < lent .edgeToTrisStarts
+  pub room-ep : length pe ≤ lent .edgeToPents
+  pub room-ep-starts : E < lent .edgeToPentsStarts
