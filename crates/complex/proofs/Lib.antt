@@ -3,3 +3,5 @@ pub mod Offences
 pub mod Sorted
 pub mod Meetings
 pub mod TriangleEdges
+pub mod Incidence
+pub mod Lying

@@ -19,7 +19,7 @@ use Rattle.complex.specs.Parts.{Faces, Numbered, numbersOf}
 
 -- ---- how many there are
 
-count-faces : (f : Face) (p : List ℕ) → length p ≡ 5 → length (facesOf f p) ≡ countOf f
+pub count-faces : (f : Face) (p : List ℕ) → length p ≡ 5 → length (facesOf f p) ≡ countOf f
 unfolding combos
 count-faces Edge (a ∷ b ∷ c ∷ d ∷ e ∷ []) h = refl
 count-faces Triangle (a ∷ b ∷ c ∷ d ∷ e ∷ []) h = refl

@@ -131,7 +131,7 @@ module _ (pe pt te : List ℕ) (E T scratch : ℕ) (lent : Lent) (adj : Adjacent
       let m = adj .tri-met (p / 3) (omega arith) in
       let z : 3 * (p / 3) + p % 3 ≡ p = omega arith in
       let e : getD te p 0 ≡ edgeAt pe (m .0) (p % 3) =
-        ap (λ (q : ℕ). getD te q 0) (sym z) ∙ ap (λ (t : ℕ). getD te (3 * t + p % 3) 0) (sym (m .2)) ∙ edges .edge (m .0) (p % 3) (m .1) (omega arith) in
+      ap (λ (q : ℕ). getD te q 0) (sym z) ∙ ap (λ (t : ℕ). getD te (3 * t + p % 3) 0) (sym (m .2)) ∙ edges .edge (m .0) (p % 3) (m .1) (omega arith) in
       omega (arith, getD-take (3 * T) te p 0 b, e, edge-at-below pe pt E scratch (m .0) (p % 3) (adj .consistent) (adj .edge-below) (m .1) (omega arith))
 
   pub can-group-triangles : (i s : ℕ) → 3 * T ≤ i → E < s → Grouping (take (3 * T) te) 3 E i s
@@ -141,5 +141,5 @@ module _ (pe pt te : List ℕ) (E T scratch : ℕ) (lent : Lent) (adj : Adjacent
         few = omega (arith, length-triangles, adj .most);
         below = triangles-below;
         room = omega (arith, length-triangles);
-        room-starts = starts
+        room-starts = starts;
       }

@@ -80,13 +80,13 @@ pub fn adjacency(
     edge_to_pents_starts: &mut [u32],
 )
     requires { ⌜ Adjacent (now «pent_edges») (now «pent_tris») «n_edges» «n_tris» (length (now «tri_edges»)) (record {
-        triToPents = length (now «tri_to_pents_items»);
-        triToPentsStarts = length (now «tri_to_pents_starts»);
-        edgeToTris = length (now «edge_to_tris_items»);
-        edgeToTrisStarts = length (now «edge_to_tris_starts»);
-        edgeToPents = length (now «edge_to_pents_items»);
-        edgeToPentsStarts = length (now «edge_to_pents_starts»)
-        }) ⌝ }
+      triToPents = length (now «tri_to_pents_items»);
+      triToPentsStarts = length (now «tri_to_pents_starts»);
+      edgeToTris = length (now «edge_to_tris_items»);
+      edgeToTrisStarts = length (now «edge_to_tris_starts»);
+      edgeToPents = length (now «edge_to_pents_items»);
+      edgeToPentsStarts = length (now «edge_to_pents_starts»);
+    }) ⌝ }
     ensures { λ _. ⌜ EdgesOf (now («pent_edges» .entry)) (now («pent_tris» .entry)) (now («tri_edges» .exit)) (length (now («pent_tris» .entry)))
         × (now («tri_to_pents_items» .exit) ≡ over (flat (groups 10 «n_tris» (now («pent_tris» .entry)))) (now («tri_to_pents_items» .entry)))
         × (now («tri_to_pents_starts» .exit) ≡ over (starts (groups 10 «n_tris» (now («pent_tris» .entry)))) (now («tri_to_pents_starts» .entry)))
@@ -96,7 +96,13 @@ pub fn adjacency(
         × (now («edge_to_pents_starts» .exit) ≡ over (starts (groups 10 «n_edges» (now («pent_edges» .entry)))) (now («edge_to_pents_starts» .entry))) ⌝ }
 {
     edges_of_triangles(pent_edges, pent_tris, tri_edges);
-    group(pent_tris, 10, n_tris, tri_to_pents_items, tri_to_pents_starts);
+    group(
+        pent_tris,
+        10,
+        n_tris,
+        tri_to_pents_items,
+        tri_to_pents_starts,
+    );
     group(
         &tri_edges[..3 * n_tris],
         3,
@@ -104,5 +110,11 @@ pub fn adjacency(
         edge_to_tris_items,
         edge_to_tris_starts,
     );
-    group(pent_edges, 10, n_edges, edge_to_pents_items, edge_to_pents_starts);
+    group(
+        pent_edges,
+        10,
+        n_edges,
+        edge_to_pents_items,
+        edge_to_pents_starts,
+    );
 }

@@ -1,5 +1,5 @@
 -- The choices of a rising list are the rising lists within it, each once. Assumes nothing.
-use mathlib.Core.Path.{_≡_, refl, sym, ap, subst}
+use mathlib.Core.Path.{_≡_, refl, sym, ap, _∙_, subst}
 use mathlib.Core.Logic.{⊎-elim}
 use mathlib.Core.List.{List, [], _∷_, _++_, map, List·Memᴰ, List·Memᴰ·head, List·Memᴰ·tail, List·Memᴰ·cases-cons, List·Memᴰ·append-cases, List·Memᴰ·eq-of-singleton, List·Memᴰ·not-nil, Memᴰ·append-left, Memᴰ·append-right, Memᴰ·map, Memᴰ·of-map, Memᴰ·cast, tail-eq-of-cons-eq}
 use Prim.Native.Nat.{ℕ, zero, suc, _<_}
@@ -7,6 +7,7 @@ use native.Mathlib.Nat.{suc-inj}
 use native.Mathlib.Omega.{arith}
 use lib.ListN.{length}
 use Rattle.lists.specs.Lists.{combos, Within, Rising, Once}
+use Rattle.lists.proofs.Elements.{once-map}
 
 -- ---- their elements
 
@@ -22,6 +23,19 @@ combos-within (x ∷ xs) (suc k) {t} m v n =
     let n′ : List·Memᴰ v (x ∷ r .0) = subst (λ (s : List ℕ). List·Memᴰ v s) (sym (r .2)) n in
     ⊎-elim List·Memᴰ·head (λ j. List·Memᴰ·tail (combos-within xs k (r .1) v j)) (List·Memᴰ·cases-cons n′))
     (λ a. List·Memᴰ·tail (combos-within xs (suc k) a v n))
+    (List·Memᴰ·append-cases (map (λ (s : List ℕ). x ∷ s) (combos xs k)) m)
+
+pub combos-length : (p : List ℕ) (k : ℕ) {t : List ℕ} → List·Memᴰ t (combos p k) → length t ≡ k
+unfolding combos
+combos-length [] zero m = ap length (List·Memᴰ·eq-of-singleton m)
+combos-length [] (suc k) m = absurd (List·Memᴰ·not-nil m)
+combos-length (x ∷ xs) zero m = ap length (List·Memᴰ·eq-of-singleton m)
+combos-length (x ∷ xs) (suc k) {t} m =
+    ⊎-elim
+    (λ a.
+    let r : (s : List ℕ) × List·Memᴰ s (combos xs k) × (x ∷ s ≡ t) = Memᴰ·of-map (λ (s : List ℕ). x ∷ s) (combos xs k) a in
+    ap length (sym (r .2)) ∙ ap suc (combos-length xs k (r .1)))
+    (combos-length xs (suc k))
     (List·Memᴰ·append-cases (map (λ (s : List ℕ). x ∷ s) (combos xs k)) m)
 
 pub combos-rising : (p : List ℕ) (k : ℕ) {t : List ℕ} → Rising p → List·Memᴰ t (combos p k) → Rising t × (length t ≡ k)
@@ -71,20 +85,13 @@ module _ {A : Type 0} where
   once-append (x ∷ xs) ys o u n =
       ((λ m. ⊎-elim (o .0) (n x (List·Memᴰ·head refl)) (List·Memᴰ·append-cases xs m)), once-append xs ys (o .1) u (λ a k. n a (List·Memᴰ·tail k)))
 
-once-map : (x : ℕ) (xs : List (List ℕ)) → Once xs → Once (map (λ (s : List ℕ). x ∷ s) xs)
-once-map x [] o = tt
-once-map x (y ∷ xs) o = (
-  (λ m. let w : (s : List ℕ) × List·Memᴰ s xs × (x ∷ s ≡ x ∷ y) = Memᴰ·of-map (λ (s : List ℕ). x ∷ s) xs m in o .0 (Memᴰ·cast (sym (tail-eq-of-cons-eq (w .2))) (w .1))),
-  once-map x xs (o .1),
-)
-
 pub combos-once : (p : List ℕ) (k : ℕ) → Rising p → Once (combos p k)
 unfolding combos
 combos-once [] zero r = (List·Memᴰ·not-nil, tt)
 combos-once [] (suc k) r = tt
 combos-once (x ∷ xs) zero r = (List·Memᴰ·not-nil, tt)
 combos-once (x ∷ xs) (suc k) r =
-    once-append (map (λ (s : List ℕ). x ∷ s) (combos xs k)) (combos xs (suc k)) (once-map x (combos xs k) (combos-once xs k (r .1))) (combos-once xs (suc k) (r .1))
+    once-append (map (λ (s : List ℕ). x ∷ s) (combos xs k)) (combos xs (suc k)) (once-map (λ (s : List ℕ). x ∷ s) (combos xs k) (combos-once xs k (r .1)) (λ a b m n e. tail-eq-of-cons-eq e)) (combos-once xs (suc k) (r .1))
     (λ a m n.
     let w : (s : List ℕ) × List·Memᴰ s (combos xs k) × (x ∷ s ≡ a) = Memᴰ·of-map (λ (s : List ℕ). x ∷ s) (combos xs k) m in
     let c : x < x = r .0 x (combos-within xs (suc k) n x (subst (λ (l : List ℕ). List·Memᴰ x l) (w .2) (List·Memᴰ·head refl))) in

@@ -2,12 +2,12 @@
 use mathlib.Core.Path.{_≡_, refl, sym, ap, _∙_, subst}
 use mathlib.Core.Logic.{_⊎_, inl, inr, ⊎-elim}
 use mathlib.Core.Bool.{Bool, true, false, cond}
-use mathlib.Core.List.{List, [], _∷_, _++_, map, append-assoc, List·Memᴰ, List·Memᴰ·head, List·Memᴰ·tail, List·Memᴰ·cases-cons, List·Memᴰ·append-cases, List·Memᴰ·eq-of-singleton, List·Memᴰ·not-nil, Memᴰ·append-left, Memᴰ·append-right, Memᴰ·cast}
-use Prim.Native.Nat.{ℕ, zero, suc, _+_, _<_, suc-le-suc}
-use native.Mathlib.Nat.{le-of-suc-le-suc, not-suc-le-zero, zero-lt-suc}
+use mathlib.Core.List.{List, [], _∷_, _++_, map, map-append, reverse, reverseAux, append-assoc, append-nil, List·Memᴰ, List·Memᴰ·head, List·Memᴰ·tail, List·Memᴰ·cases-cons, List·Memᴰ·append-cases, List·Memᴰ·eq-of-singleton, List·Memᴰ·not-nil, Memᴰ·append-left, Memᴰ·append-right, Memᴰ·of-map, Memᴰ·cast}
+use Prim.Native.Nat.{ℕ, zero, suc, _+_, _*_, _<_, suc-le-suc}
+use native.Mathlib.Nat.{le-of-suc-le-suc, not-suc-le-zero, zero-lt-suc, mul-zero, mul-suc}
 use native.Mathlib.Omega.{arith}
 use lib.ListN.{length, getD, length-append, length-map, List·getD-append}
-use lib.Seq.{getD-append-seam}
+use lib.Seq.{getD-append-seam, getD-append-add, ext-getD}
 use Rattle.lists.specs.Lists.{keep, gather, upto, among, within, Within, Once}
 use Rattle.lists.proofs.Tests.{Says, pass, fail, eqb-says, ltb-says, and-says, or-says}
 
@@ -83,7 +83,47 @@ module _ {A : Type 0} where
 
     pub gather-snoc : (f : A → List B) (xs : List A) (y : A) → gather f (xs ++ y ∷ []) ≡ gather f xs ++ f y
     unfolding gather
-    gather-snoc f xs y = gather-append f xs (y ∷ []) ∙ ap (λ (r : List B). gather f xs ++ r) (mathlib.Core.List.append-nil (f y))
+    gather-snoc f xs y = gather-append f xs (y ∷ []) ∙ ap (λ (r : List B). gather f xs ++ r) (append-nil (f y))
+
+    pub length-gather : (f : A → List B) (w : ℕ) (xs : List A) → ((x : A) → List·Memᴰ x xs → length (f x) ≡ w) → length (gather f xs) ≡ w * length xs
+    unfolding gather
+    length-gather f w [] h = sym (mul-zero w)
+    length-gather f w (x ∷ xs) h =
+        omega (arith, length-append (f x) (gather f xs), h x (List·Memᴰ·head refl), length-gather f w xs (λ y m. h y (List·Memᴰ·tail m)), mul-suc w (length xs))
+
+    -- where every list has w elements, the j-th of the k-th list stands at w k + j
+    pub gather-at : (f : A → List B) (w : ℕ) (xs : List A) (d : A) (e : B) → ((x : A) → List·Memᴰ x xs → length (f x) ≡ w) → (k j : ℕ) → k < length xs → j < w
+        → getD (gather f xs) (w * k + j) e ≡ getD (f (getD xs k d)) j e
+    unfolding gather
+    gather-at f w [] d e h k j a b = absurd (not-suc-le-zero a)
+    gather-at f w (x ∷ xs) d e h zero j a b =
+        let z : w * 0 + j ≡ j = omega (arith, mul-zero w) in
+        let l : length (f x) ≡ w = h x (List·Memᴰ·head refl) in
+        rw z (List·getD-append (f x) (gather f xs) e j (omega arith))
+    gather-at f w (x ∷ xs) d e h (suc k) j a b =
+        let z : w * suc k + j ≡ length (f x) + (w * k + j) = omega (arith, mul-suc w k, h x (List·Memᴰ·head refl)) in
+        ap (λ (i : ℕ). getD (f x ++ gather f xs) i e) z ∙ getD-append-add (f x) (gather f xs) (w * k + j) e
+        ∙ gather-at f w xs d e (λ y m. h y (List·Memᴰ·tail m)) k j (le-of-suc-le-suc a) b
+
+    pub map-gather : {C : Type 0} (g : B → C) (f : A → List B) (xs : List A) → map g (gather f xs) ≡ gather (λ x. map g (f x)) xs
+    unfolding gather
+    map-gather g f [] = refl
+    map-gather {C} g f (x ∷ xs) = map-append g (f x) (gather f xs) ∙ ap (λ (r : List C). map g (f x) ++ r) (map-gather g f xs)
+
+    pub getD-map : (f : A → B) (xs : List A) (i : ℕ) (d : A) (e : B) → i < length xs → getD (map f xs) i e ≡ f (getD xs i d)
+    getD-map f [] i d e h = absurd (not-suc-le-zero h)
+    getD-map f (x ∷ xs) zero d e h = refl
+    getD-map f (x ∷ xs) (suc i) d e h = getD-map f xs i d e (le-of-suc-le-suc h)
+
+    -- a function that tells a list's elements apart makes no element twice
+    pub once-map : (f : A → B) (xs : List A) → Once xs → ((a b : A) → List·Memᴰ a xs → List·Memᴰ b xs → f a ≡ f b → a ≡ b) → Once (map f xs)
+    once-map f [] o g = tt
+    once-map f (x ∷ xs) o g = (
+      (λ m.
+          let w : (y : A) × List·Memᴰ y xs × (f y ≡ f x) = Memᴰ·of-map f xs m in
+          o .0 (Memᴰ·cast (g x (w .0) (List·Memᴰ·head refl) (List·Memᴰ·tail (w .1)) (sym (w .2))) (w .1))),
+      once-map f xs (o .1) (λ a b m n. g a b (List·Memᴰ·tail m) (List·Memᴰ·tail n)),
+    )
 
     -- two functions that agree on a list's elements make the same list of it
     pub map-same : (f g : A → B) (xs : List A) → ((a : A) → List·Memᴰ a xs → f a ≡ g a) → map f xs ≡ map g xs
@@ -125,12 +165,16 @@ getD-upto (suc n) i d h = go (ltb-says i n) (getD-upto n i d)
 
 -- a table of a rule: its entries
 pub getD-table : {B : Type 0} (f : ℕ → B) (n i : ℕ) (d : B) → i < n → getD (map f (upto n)) i d ≡ f i
-getD-table f n i d h = at (upto n) i (rw length-upto h) ∙ ap f (getD-upto n i zero h)
-  where
-    at : (xs : List ℕ) (i : ℕ) → i < length xs → getD (map f xs) i d ≡ f (getD xs i zero)
-    at [] i h = absurd (not-suc-le-zero h)
-    at (x ∷ xs) zero h = refl
-    at (x ∷ xs) (suc i) h = at xs i (le-of-suc-le-suc h)
+getD-table f n i d h = getD-map f (upto n) i zero d (rw length-upto h) ∙ ap f (getD-upto n i zero h)
+
+-- a list by its places
+pub map-upto : {A B : Type 0} (f : A → B) (xs : List A) (d : A) (e : B) → map f xs ≡ map (λ i. f (getD xs i d)) (upto (length xs))
+map-upto f xs d e =
+    ext-getD e (map f xs) (map (λ i. f (getD xs i d)) (upto (length xs)))
+    (length-map xs f ∙ sym (length-map (upto (length xs)) (λ i. f (getD xs i d)) ∙ length-upto (length xs)))
+    (λ i h.
+    let l : i < length xs = rw (length-map xs f) at h in
+    getD-map f xs i d e l ∙ sym (getD-table (λ i. f (getD xs i d)) (length xs) i e l))
 
 -- ---- `among` and `within`
 
@@ -149,3 +193,21 @@ within-says (x ∷ s) p =
     (λ w v m. w v (List·Memᴰ·tail m))
     (among-says x p)
     (within-says s p)
+
+-- ---- `reverse`
+
+pub mem-reverse : {A : Type 0} (xs : List A) {a : A} → List·Memᴰ a (reverse xs) → List·Memᴰ a xs
+mem-reverse {A} xs {a} m = ⊎-elim (λ k. k) (λ k. absurd (List·Memᴰ·not-nil k)) (go xs [] m)
+  where
+    go : (xs ys : List A) → List·Memᴰ a (reverseAux xs ys) → List·Memᴰ a xs ⊎ List·Memᴰ a ys
+    go [] ys m = inr m
+    go (x ∷ xs) ys m = ⊎-elim (λ k. inl (List·Memᴰ·tail k)) (λ k. ⊎-elim (λ e. inl (List·Memᴰ·head e)) inr (List·Memᴰ·cases-cons k)) (go xs (x ∷ ys) m)
+
+pub reverse-mem : {A : Type 0} (xs : List A) {a : A} → List·Memᴰ a xs → List·Memᴰ a (reverse xs)
+reverse-mem {A} xs {a} m = go xs [] (inl m)
+  where
+    go : (xs ys : List A) → List·Memᴰ a xs ⊎ List·Memᴰ a ys → List·Memᴰ a (reverseAux xs ys)
+    go [] ys (inl k) = absurd (List·Memᴰ·not-nil k)
+    go [] ys (inr k) = k
+    go (x ∷ xs) ys (inl k) = go xs (x ∷ ys) (⊎-elim (λ e. inr (List·Memᴰ·head e)) inl (List·Memᴰ·cases-cons k))
+    go (x ∷ xs) ys (inr k) = go xs (x ∷ ys) (inr (List·Memᴰ·tail k))

@@ -126,3 +126,10 @@ part-row w q xs = let e : w * q + w - w * q ≡ w = omega arith in rw e refl
 
 pub length-part : (w q n : ℕ) (xs : List ℕ) → q < n → w * n ≤ length xs → length (take w (drop (w * q) xs)) ≡ w
 length-part w q n xs h r = length-take-le w (drop (w * q) xs) (omega (arith, row-below w q n h, length-drop (w * q) xs))
+
+-- ---- gathered rows
+
+pub flat-map : {A : Type 0} (f : A → List ℕ) (xs : List A) → flat (map f xs) ≡ gather f xs
+unfolding flat gather
+flat-map f [] = refl
+flat-map f (x ∷ xs) = ap (λ (r : List ℕ). f x ++ r) (flat-map f xs)
