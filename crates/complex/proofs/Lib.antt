@@ -5,3 +5,4 @@ pub mod Meetings
 pub mod TriangleEdges
 pub mod Incidence
 pub mod Lying
+pub mod Whole

@@ -102,6 +102,22 @@ pub record Lists : Type 0 where
   pub edgeToPents : List ℕ
   pub edgeToPentsStarts : List ℕ
 
+-- ten lists, in the order in which they are lent
+abbrev pub lists : List ℕ → List ℕ → List ℕ → List ℕ → List ℕ → List ℕ → List ℕ → List ℕ → List ℕ → List ℕ → Lists
+lists p e t k tp tps et ets ep eps =
+    record {
+      pents = p;
+      edges = e;
+      triangles = t;
+      tets = k;
+      triToPents = tp;
+      triToPentsStarts = tps;
+      edgeToTris = et;
+      edgeToTrisStarts = ets;
+      edgeToPents = ep;
+      edgeToPentsStarts = eps;
+    }
+
 -- what the builder writes for sorted pentachorons: rows are flat, adjacency lists are items and starts
 unfoldable pub written : List (List ℕ) → Lists
 written ps =

@@ -1,13 +1,15 @@
 -- What the parts of the builder ask and leave. Definitions only.
 use Prim.Native.Nat.{ℕ, _+_, _*_, _/_, _%_, _≤_, _<_}
 use mathlib.Core.Path.{_≡_}
-use mathlib.Core.List.{List, [], _∷_, map}
+use mathlib.Core.List.{List, [], _∷_, map, List·Memᴰ}
 use lib.ListN.{length, getD}
+use Rattle.lists.specs.Lists.{Once}
 use Rattle.lists.specs.Keys.{find}
 use Rattle.lists.specs.Rows.{flat, rows, over}
 use Rattle.lists.specs.Groups.{Below}
 use Rattle.complex.specs.declared.numbering.Face.{Face}
 use Rattle.complex.specs.Complex.{widthOf, countOf, metFaces, faces}
+use Rattle.complex.specs.Builder.{Lists, pentachorons}
 
 -- there is room for the faces of P pentachorons: among the rows, the links of the chains and the numbers
 pub record Faces (f : Face) (P pents list next numbers : ℕ) : Type 0 where
@@ -75,3 +77,21 @@ pub record Adjacent (pe pt : List ℕ) (E T scratch : ℕ) (lent : Lent) : Type 
   pub room-et-starts : E < lent .edgeToTrisStarts
   pub room-ep : length pe ≤ lent .edgeToPents
   pub room-ep-starts : E < lent .edgeToPentsStarts
+
+-- ---- the whole
+
+-- a pentachoron list that passed the checks, with lists that have room
+pub record Buildable (given : List ℕ) (l : Lists) : Type 0 where
+  pub whole : length given % 5 ≡ 0
+  pub few : length given ≤ 40960
+  pub once : (p : List ℕ) → List·Memᴰ p (pentachorons given) → Once p
+  pub pents-room : length given ≤ length (l .pents)
+  pub edges-room : 4 * length given ≤ length (l .edges)
+  pub triangles-room : 6 * length given ≤ length (l .triangles)
+  pub tets-room : 4 * length given ≤ length (l .tets)
+  pub tp-room : 2 * length given ≤ length (l .triToPents)
+  pub tp-starts-room : 2 * length given < length (l .triToPentsStarts)
+  pub et-room : 6 * length given ≤ length (l .edgeToTris)
+  pub et-starts-room : 2 * length given < length (l .edgeToTrisStarts)
+  pub ep-room : 2 * length given ≤ length (l .edgeToPents)
+  pub ep-starts-room : 2 * length given < length (l .edgeToPentsStarts)

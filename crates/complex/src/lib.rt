@@ -1,5 +1,6 @@
 // The complex of a list of pentachorons: faces numbered by first meeting, and adjacency lists.
 mod adjacency;
+mod builder;
 mod checks;
 mod numbering;
 mod sorting;
