@@ -8,12 +8,17 @@ use native.Mathlib.Omega.{arith}
 use lib.Dec.{eqb, ltb, leb}
 use lib.ListN.{length, take, drop}
 use lib.Seq.{drop-drop}
+use borrow.Author.Tests.{eqb-true, ltb-false, not-false}
 use Rattle.refusals.specs.declared.Refusal.{Refusal}
-use Rattle.refusals.specs.declared.Refusal.the-variants.{VertexTooLarge, RepeatedVertex}
+use Rattle.refusals.specs.declared.Refusal.the-variants.{VertexCount, ListLength, ShortRoom, VertexTooLarge, RepeatedVertex}
 use Rattle.refusals.specs.declared.Outcome.{Outcome}
 use Rattle.refusals.specs.declared.Outcome.the-variants.{Done, Refused}
+use Rattle.lists.specs.Lists.{among, Once}
 use Rattle.lists.specs.Rows.{rows}
-use Rattle.complex.specs.Builder.{tooLarge, repeats, offence}
+use Rattle.lists.proofs.Tests.{denied}
+use Rattle.lists.proofs.Elements.{among-says}
+use Rattle.complex.specs.Builder.{pentachorons, tooLarge, repeats, offence, isShort, checkOf, Lists, roomsOf}
+use Rattle.complex.specs.Parts.{Buildable}
 
 -- the turn at the pentachoron k of c
 pub offence-turn : (n k c : ℕ) (ps : List ℕ) → k < c
@@ -26,3 +31,62 @@ offence-turn n k c ps h =
     let e : 5 * k + 5 ≡ 5 * (k + 1) = omega arith in
     let b : drop 5 (drop (5 * k) ps) ≡ drop (5 * (k + 1)) ps = drop-drop 5 (5 * k) ps ∙ ap (λ (m : ℕ). drop m ps) e in
     rw (a, ← b) refl
+
+-- ---- what passed
+
+cond-done : (b : Bool) (r : Refusal) (x : Outcome) → cond b (Refused r) x ≡ Done → (b ≡ false) × (x ≡ Done)
+cond-done true r x h = absurd (let z : _≡_ {A = ℕ} 0 1 = cc in omega arith)
+cond-done false r x h = (refl, h)
+
+or-false : (a b : Bool) → (a || b) ≡ false → (a ≡ false) × (b ≡ false)
+or-false true b h = absurd (let z : _≡_ {A = ℕ} 0 1 = cc in omega arith)
+or-false false b h = (refl, h)
+
+-- no pentachoron offends
+pub offence-done : (n k : ℕ) (ps : List (List ℕ)) → offence n k ps ≡ Done → (p : List ℕ) → List·Memᴰ p ps → (tooLarge n p ≡ false) × (repeats p ≡ false)
+unfolding offence
+offence-done n k [] h p m = absurd (List·Memᴰ·not-nil m)
+offence-done n k (q ∷ ps) h p m =
+    let a = cond-done (tooLarge n q) (VertexTooLarge k) _ h in
+    let b = cond-done (repeats q) (RepeatedVertex k) _ (a .1) in
+    ⊎-elim (λ e. rw e (a .0, b .0)) (offence-done n (k + 1) ps (b .1) p) (List·Memᴰ·cases-cons m)
+
+-- no vertex stands twice
+pub once-of : (p : List ℕ) → repeats p ≡ false → Once p
+unfolding repeats
+once-of [] h = tt
+once-of (v ∷ p) h = let a = or-false (among v p) (repeats p) h in (denied (among-says v p) (a .0), once-of p (a .1))
+
+pub passed : (n : ℕ) (given : List ℕ) (l : Lists) → checkOf n given (roomsOf l) ≡ Done → Buildable given l
+unfolding checkOf isShort roomsOf
+passed n given l h =
+    let P = length given / 5 in
+    let a = cond-done (eqb n 0 || ltb 4096 n) VertexCount _ h in
+    let b = cond-done (not (eqb (length given % 5) 0) || ltb 40960 (length given)) ListLength _ (a .1) in
+    let c = cond-done _ ShortRoom _ (b .1) in
+    let d = or-false (not (eqb (length given % 5) 0)) (ltb 40960 (length given)) (b .0) in
+    let s9 = or-false _ (ltb (length (l .edgeToPentsStarts)) (10 * P + 1)) (c .0) in
+    let s8 = or-false _ (ltb (length (l .edgeToPents)) (10 * P)) (s9 .0) in
+    let s7 = or-false _ (ltb (length (l .edgeToTrisStarts)) (10 * P + 1)) (s8 .0) in
+    let s6 = or-false _ (ltb (length (l .edgeToTris)) (30 * P)) (s7 .0) in
+    let s5 = or-false _ (ltb (length (l .triToPentsStarts)) (10 * P + 1)) (s6 .0) in
+    let s4 = or-false _ (ltb (length (l .triToPents)) (10 * P)) (s5 .0) in
+    let s3 = or-false _ (ltb (length (l .tets)) (20 * P)) (s4 .0) in
+    let s2 = or-false _ (ltb (length (l .triangles)) (30 * P)) (s3 .0) in
+    let s1 = or-false (ltb (length (l .pents)) (5 * P)) (ltb (length (l .edges)) (20 * P)) (s2 .0) in
+    let whole : length given % 5 ≡ 0 = eqb-true (length given % 5) 0 (not-false (eqb (length given % 5) 0) (d .0)) in
+    record {
+      whole = whole;
+      few = ltb-false 40960 (length given) (d .1);
+      once = λ p m. once-of p (offence-done n 0 (pentachorons given) (c .1) p m .1);
+      pents-room = omega (arith, whole, ltb-false (length (l .pents)) (5 * P) (s1 .0));
+      edges-room = omega (arith, whole, ltb-false (length (l .edges)) (20 * P) (s1 .1));
+      triangles-room = omega (arith, whole, ltb-false (length (l .triangles)) (30 * P) (s2 .1));
+      tets-room = omega (arith, whole, ltb-false (length (l .tets)) (20 * P) (s3 .1));
+      tp-room = omega (arith, whole, ltb-false (length (l .triToPents)) (10 * P) (s4 .1));
+      tp-starts-room = omega (arith, whole, ltb-false (length (l .triToPentsStarts)) (10 * P + 1) (s5 .1));
+      et-room = omega (arith, whole, ltb-false (length (l .edgeToTris)) (30 * P) (s6 .1));
+      et-starts-room = omega (arith, whole, ltb-false (length (l .edgeToTrisStarts)) (10 * P + 1) (s7 .1));
+      ep-room = omega (arith, whole, ltb-false (length (l .edgeToPents)) (10 * P) (s8 .1));
+      ep-starts-room = omega (arith, whole, ltb-false (length (l .edgeToPentsStarts)) (10 * P + 1) (s9 .1));
+    }
