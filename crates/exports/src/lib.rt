@@ -1,4 +1,6 @@
 // The library's functions for C and Rust to call, on numbers and slices alone.
+use complex::Counts;
+use complex::from_pentachorons;
 use geometry::cofactor_6x6;
 use lorentzian::all_lorentzian_dihedrals;
 use lorentzian::lorentzian_dihedral;
@@ -13,6 +15,8 @@ ghost use Rattle.fdlibm.specs.Log1p.{log1pOf};
 ghost use Rattle.fdlibm.specs.Acos.{acosOf};
 ghost use Rattle.fdlibm.specs.Acosh.{acoshOf};
 ghost use Rattle.fdlibm.specs.Asinh.{asinhOf};
+ghost use Rattle.complex.specs.Builder.{lists};
+ghost use Rattle.exports.specs.Complexes.{countsOfList, countsList, Built};
 ghost use Rattle.geometry.specs.CayleyMenger.{cm, cofactors};
 ghost use Rattle.geometry.specs.Answer as Cofactor;
 ghost use Rattle.lorentzian.specs.Triangle.{areaSq, areaSqGrad, gradOutcome, gradAfter};
@@ -205,4 +209,74 @@ pub extern "C" fn cjapthumi_all_lorentzian_dihedrals_jacobian(
     ensures { λ r. ⌜ now (jac .exit) ≡ jacobian (now (s .entry)) eps ⌝ }
 {
     *jac = lorentzian::all_lorentzian_dihedrals_jacobian(s, eps);
+}
+
+// ---- complexes
+
+// `counts` gets the numbers of vertices, pentachorons, edges, triangles and tets, and keeps its content where the call is refused.
+// `place` gets the refusal's place, 0 where there is none.
+#[no_mangle]
+pub extern "C" fn cjapthumi_from_pentachorons(
+    n_vertices: usize,
+    given: &[u32],
+    pents: &mut [u32],
+    edges: &mut [u32],
+    triangles: &mut [u32],
+    tets: &mut [u32],
+    tri_to_pents_items: &mut [u32],
+    tri_to_pents_starts: &mut [u32],
+    edge_to_tris_items: &mut [u32],
+    edge_to_tris_starts: &mut [u32],
+    edge_to_pents_items: &mut [u32],
+    edge_to_pents_starts: &mut [u32],
+    counts: &mut [usize; 5],
+    place: &mut usize,
+) -> u32
+    ensures { λ r. ⌜ Built «n_vertices» (now (given .entry))
+        (lists (now (pents .entry)) (now (edges .entry)) (now (triangles .entry)) (now (tets .entry))
+        (now («tri_to_pents_items» .entry)) (now («tri_to_pents_starts» .entry)) (now («edge_to_tris_items» .entry)) (now («edge_to_tris_starts» .entry))
+        (now («edge_to_pents_items» .entry)) (now («edge_to_pents_starts» .entry)))
+        (now (counts .entry)) r
+        (lists (now (pents .exit)) (now (edges .exit)) (now (triangles .exit)) (now (tets .exit))
+        (now («tri_to_pents_items» .exit)) (now («tri_to_pents_starts» .exit)) (now («edge_to_tris_items» .exit)) (now («edge_to_tris_starts» .exit))
+        (now («edge_to_pents_items» .exit)) (now («edge_to_pents_starts» .exit)))
+        (now (counts .exit)) (now (place .exit)) ⌝ }
+{
+    let built = from_pentachorons(
+        n_vertices,
+        given,
+        pents,
+        edges,
+        triangles,
+        tets,
+        tri_to_pents_items,
+        tri_to_pents_starts,
+        edge_to_tris_items,
+        edge_to_tris_starts,
+        edge_to_pents_items,
+        edge_to_pents_starts,
+    );
+    *counts = counts_list(built.counts_or(counts_of(*counts)));
+    *place = built.place();
+    built.number()
+}
+
+// Five numbers as counts.
+fn counts_of(c: [usize; 5]) -> Counts
+    ensures { λ r. ⌜ r ≡ countsOfList c ⌝ }
+{
+    Counts {
+        vertices: c[0],
+        pentachorons: c[1],
+        edges: c[2],
+        triangles: c[3],
+        tets: c[4],
+    }
+}
+
+// Counts as five numbers.
+fn counts_list(c: Counts) -> [usize; 5]
+    ensures { λ r. ⌜ r ≡ countsList c ⌝ }
+{
+    [c.vertices, c.pentachorons, c.edges, c.triangles, c.tets]
 }

@@ -1,0 +1,2 @@
+-- The definitions that contracts of exported functions cite.
+pub mod Complexes
