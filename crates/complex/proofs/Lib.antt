@@ -6,3 +6,5 @@ pub mod TriangleEdges
 pub mod Incidence
 pub mod Lying
 pub mod Whole
+pub mod Laws
+pub mod Pushing

@@ -125,52 +125,54 @@ module _ (ps : List (List ℕ)) (five : Wide 5 ps) (up : Sorted ps) where
 
   -- ---- the three lists
 
-  choices-of : (f : Face) → (p s : List ℕ) → List·Memᴰ p ps → List·Memᴰ s (facesOf f p) → List·Memᴰ s (faces f ps)
-  choices-of f p s m n = faces-has f ps m n
-
-  pub tri-to-pents : groups 10 (length (triangles ps)) (numbersOf Triangle ps) ≡ triToPents ps
-  unfolding numbersOf metFaces triToPents
-  tri-to-pents =
-      ap (groups 10 (length (triangles ps))) (map-gather (λ s. find s (triangles ps)) (facesOf Triangle) ps)
-      ∙ groups-holding (triangles ps) 3 10 ps
-      (record {
+  pub keyed-triangles : Keyed (triangles ps) 3 10 ps
+  keyed-triangles =
+      record {
         distinct = faces-distinct Triangle ps;
         rising = λ s m. face-rising Triangle ps up m;
         sorted = up;
         size = λ p m. count-faces Triangle p (five p m);
-        found = choices-of Triangle;
-      })
-      (omega arith)
+        found = λ p s m n. faces-has Triangle ps m n;
+      }
 
-  pub edge-to-pents : groups 10 (length (edges ps)) (numbersOf Edge ps) ≡ edgeToPents ps
-  unfolding numbersOf metFaces edgeToPents
-  edge-to-pents =
-      ap (groups 10 (length (edges ps))) (map-gather (λ s. find s (edges ps)) (facesOf Edge) ps)
-      ∙ groups-holding (edges ps) 2 10 ps
-      (record {
+  pub keyed-edges : Keyed (edges ps) 2 10 ps
+  keyed-edges =
+      record {
         distinct = faces-distinct Edge ps;
         rising = λ s m. face-rising Edge ps up m;
         sorted = up;
         size = λ p m. count-faces Edge p (five p m);
-        found = choices-of Edge;
-      })
-      (omega arith)
+        found = λ p s m n. faces-has Edge ps m n;
+      }
 
   triangle-size : (t : List ℕ) → List·Memᴰ t (triangles ps) → length (combos t 2) ≡ 3
   triangle-size t m = three-edges t (face-rising Triangle ps up m .1)
 
-  edge-to-tris : groups 3 (length (edges ps)) (gather (rowNumbers (edges ps) 2) (triangles ps)) ≡ edgeToTris ps
-  unfolding edgeToTris
-  edge-to-tris =
-      groups-holding (edges ps) 2 3 (triangles ps)
-      (record {
+  pub keyed-triangle-edges : Keyed (edges ps) 2 3 (triangles ps)
+  keyed-triangle-edges =
+      record {
         distinct = faces-distinct Edge ps;
         rising = λ s m. face-rising Edge ps up m;
         sorted = λ t m. face-rising Triangle ps up m .0;
         size = triangle-size;
         found = λ t s m n. edge-of-triangle ps up m n;
-      })
-      (omega arith)
+      }
+
+  pub tri-to-pents : groups 10 (length (triangles ps)) (numbersOf Triangle ps) ≡ triToPents ps
+  unfolding numbersOf metFaces triToPents
+  tri-to-pents =
+      ap (groups 10 (length (triangles ps))) (map-gather (λ s. find s (triangles ps)) (facesOf Triangle) ps)
+      ∙ groups-holding (triangles ps) 3 10 ps keyed-triangles (omega arith)
+
+  pub edge-to-pents : groups 10 (length (edges ps)) (numbersOf Edge ps) ≡ edgeToPents ps
+  unfolding numbersOf metFaces edgeToPents
+  edge-to-pents =
+      ap (groups 10 (length (edges ps))) (map-gather (λ s. find s (edges ps)) (facesOf Edge) ps)
+      ∙ groups-holding (edges ps) 2 10 ps keyed-edges (omega arith)
+
+  edge-to-tris : groups 3 (length (edges ps)) (gather (rowNumbers (edges ps) 2) (triangles ps)) ≡ edgeToTris ps
+  unfolding edgeToTris
+  edge-to-tris = groups-holding (edges ps) 2 3 (triangles ps) keyed-triangle-edges (omega arith)
 
   -- the edges of triangles as they were stored
   module _ (te : List ℕ) (room : 3 * length (triangles ps) ≤ length te) (edges-of : EdgesOf (numbersOf Edge ps) (numbersOf Triangle ps) te (length (numbersOf Triangle ps))) where

@@ -17,6 +17,7 @@ use Rattle.lists.specs.Lists.{among, Once}
 use Rattle.lists.specs.Rows.{rows}
 use Rattle.lists.proofs.Tests.{denied}
 use Rattle.lists.proofs.Elements.{among-says}
+use Rattle.complex.specs.declared.checks.Rooms.{Rooms}
 use Rattle.complex.specs.Builder.{pentachorons, tooLarge, repeats, offence, isShort, checkOf, Lists, roomsOf}
 use Rattle.complex.specs.Parts.{Buildable}
 
@@ -38,7 +39,7 @@ cond-done : (b : Bool) (r : Refusal) (x : Outcome) → cond b (Refused r) x ≡ 
 cond-done true r x h = absurd (let z : _≡_ {A = ℕ} 0 1 = cc in omega arith)
 cond-done false r x h = (refl, h)
 
-or-false : (a b : Bool) → (a || b) ≡ false → (a ≡ false) × (b ≡ false)
+pub or-false : (a b : Bool) → (a || b) ≡ false → (a ≡ false) × (b ≡ false)
 or-false true b h = absurd (let z : _≡_ {A = ℕ} 0 1 = cc in omega arith)
 or-false false b h = (refl, h)
 
@@ -90,3 +91,13 @@ passed n given l h =
       ep-room = omega (arith, whole, ltb-false (length (l .edgeToPents)) (10 * P) (s8 .1));
       ep-starts-room = omega (arith, whole, ltb-false (length (l .edgeToPentsStarts)) (10 * P + 1) (s9 .1));
     }
+
+-- a list of the same length passes too, where its pentachorons do
+pub check-same : (n : ℕ) (given xs : List ℕ) (r : Rooms) → length xs ≡ length given → checkOf n given r ≡ Done
+    → (offence n 0 (pentachorons given) ≡ Done → offence n 0 (pentachorons xs) ≡ Done) → checkOf n xs r ≡ Done
+unfolding checkOf
+check-same n given xs r e h f =
+    let a = cond-done (eqb n 0 || ltb 4096 n) VertexCount _ h in
+    let b = cond-done (not (eqb (length given % 5) 0) || ltb 40960 (length given)) ListLength _ (a .1) in
+    let c = cond-done (isShort (length given / 5) r) ShortRoom _ (b .1) in
+    rw (a .0) (rw e (rw (b .0, c .0) (rw e at (f (c .1)))))

@@ -2,3 +2,4 @@
 pub mod Complex
 pub mod Builder
 pub mod Parts
+pub mod Pushed

@@ -8,7 +8,7 @@ use native.Mathlib.Nat.{le-of-suc-le-suc, not-suc-le-zero, zero-lt-suc, mul-zero
 use native.Mathlib.Omega.{arith}
 use lib.ListN.{length, getD, length-append, length-map, List·getD-append}
 use lib.Seq.{getD-append-seam, getD-append-add, ext-getD}
-use Rattle.lists.specs.Lists.{keep, gather, upto, among, within, Within, Once}
+use Rattle.lists.specs.Lists.{keep, gather, upto, among, within, Within, Rising, Once}
 use Rattle.lists.proofs.Tests.{Says, pass, fail, eqb-says, ltb-says, and-says, or-says}
 
 module _ {A : Type 0} where
@@ -211,3 +211,35 @@ reverse-mem {A} xs {a} m = go xs [] (inl m)
     go [] ys (inr k) = k
     go (x ∷ xs) ys (inl k) = go xs (x ∷ ys) (⊎-elim (λ e. inr (List·Memᴰ·head e)) inl (List·Memᴰ·cases-cons k))
     go (x ∷ xs) ys (inr k) = go xs (x ∷ ys) (inr (List·Memᴰ·tail k))
+
+-- ---- rising lists
+
+pub keep-only : {A : Type 0} (q : A → Bool) (xs : List A) {a : A} → List·Memᴰ a (keep q xs) → List·Memᴰ a xs
+unfolding keep
+keep-only q [] m = m
+keep-only {A} q (x ∷ xs) {a} m = go (q x) (keep-only q xs) m
+  where
+    go : (b : Bool) → (List·Memᴰ a (keep q xs) → List·Memᴰ a xs) → List·Memᴰ a (cond b (x ∷ keep q xs) (keep q xs)) → List·Memᴰ a (x ∷ xs)
+    go true r n = ⊎-elim List·Memᴰ·head (λ k. List·Memᴰ·tail (r k)) (List·Memᴰ·cases-cons n)
+    go false r n = List·Memᴰ·tail (r n)
+
+pub keep-rising : (q : ℕ → Bool) (xs : List ℕ) → Rising xs → Rising (keep q xs)
+unfolding keep
+keep-rising q [] r = tt
+keep-rising q (x ∷ xs) r = go (q x) (keep-rising q xs (r .1))
+  where
+    go : (b : Bool) → Rising (keep q xs) → Rising (cond b (x ∷ keep q xs) (keep q xs))
+    go true h = ((λ v m. r .0 v (keep-only q xs m)), h)
+    go false h = h
+
+pub upto-rising : (n : ℕ) → Rising (upto n)
+unfolding upto
+upto-rising zero = tt
+upto-rising (suc n) = snoc (upto n) (upto-rising n) (λ v m. mem-upto n v m)
+  where
+    snoc : (xs : List ℕ) → Rising xs → ((v : ℕ) → List·Memᴰ v xs → v < n) → Rising (xs ++ n ∷ [])
+    snoc [] r h = ((λ v m. absurd (List·Memᴰ·not-nil m)), tt)
+    snoc (x ∷ xs) r h = (
+      (λ v m. ⊎-elim (r .0 v) (λ k. let e : v ≡ n = List·Memᴰ·eq-of-singleton k in omega (arith, h x (List·Memᴰ·head refl))) (List·Memᴰ·append-cases xs m)),
+      snoc xs (r .1) (λ v m. h v (List·Memᴰ·tail m)),
+    )

@@ -9,3 +9,4 @@ pub mod Sorting
 pub mod Chains
 pub mod Grouped
 pub mod GroupSteps
+pub mod Loops

@@ -1,14 +1,15 @@
 -- Rows in flat lists: what is written flat is read back, and what a list with room holds. Assumes nothing.
 use mathlib.Core.Path.{_≡_, refl, sym, ap, _∙_}
-use mathlib.Core.List.{List, [], _∷_, _++_, map, append-assoc, append-nil, List·Memᴰ, List·Memᴰ·head, List·Memᴰ·tail}
+use mathlib.Core.List.{List, [], _∷_, _++_, map, append-assoc, append-nil, List·Memᴰ, List·Memᴰ·head, List·Memᴰ·tail, List·Memᴰ·cases-cons, List·Memᴰ·not-nil}
+use mathlib.Core.Logic.{⊎-elim}
 use Prim.Native.Nat.{ℕ, zero, suc, _+_, _*_, _-_, _≤_, _<_}
-use native.Mathlib.Nat.{le-of-suc-le-suc, not-suc-le-zero, mul-suc, mul-zero, mul-le-mul-left}
+use native.Mathlib.Nat.{le-of-suc-le-suc, not-suc-le-zero, add-zero, mul-suc, mul-zero, mul-le-mul-left}
 use native.Mathlib.Numerals.{add-one}
 use native.Mathlib.Omega.{arith}
 use lib.ListN.{length, getD, take, drop, length-append, length-drop, take-append-drop}
-use lib.Seq.{getD-take, getD-drop, drop-drop, take-add, take-at, drop-at, length-take-le, take-append-le, drop-append-le, take-all}
+use lib.Seq.{drop-drop, take-add, take-at, drop-at, length-take-le, take-all, take-length, slice, take-append-add, take-append-seam, drop-append-seam}
 use Rattle.lists.specs.Lists.{gather}
-use Rattle.lists.specs.Rows.{flat, rows, Wide, over}
+use Rattle.lists.specs.Rows.{flat, rows, Wide, startsFrom, starts, over}
 use Rattle.lists.proofs.Elements.{getD-mem}
 
 -- ---- `rows`
@@ -44,12 +45,12 @@ row-below w k n h = let l : w * suc k ≤ w * n = mul-le-mul-left w h in omega (
 
 pub rows-wide : (w n : ℕ) (xs : List ℕ) → w * n ≤ length xs → Wide w (rows w n xs)
 unfolding rows
-rows-wide w zero xs h x m = absurd (mathlib.Core.List.List·Memᴰ·not-nil m)
+rows-wide w zero xs h x m = absurd (List·Memᴰ·not-nil m)
 rows-wide w (suc n) xs h x m =
-    mathlib.Core.Logic.⊎-elim
+    ⊎-elim
     (λ e. ap length e ∙ length-take-le w xs (omega (arith, mul-suc w n)))
     (rows-wide w n (drop w xs) (omega (arith, mul-suc w n, length-drop w xs)) x)
-    (mathlib.Core.List.List·Memᴰ·cases-cons m)
+    (List·Memᴰ·cases-cons m)
 
 -- the rows lie in what stands below w n
 pub rows-take : (w n m : ℕ) (xs : List ℕ) → w * n ≤ m → m ≤ length xs → rows w n (take m xs) ≡ rows w n xs
@@ -102,6 +103,44 @@ rows-flat w (x ∷ xs) rest h =
     let k : length x ≡ w = h x (List·Memᴰ·head refl) in
     rw (append-assoc x (flat xs) rest, take-at x (flat xs ++ rest) w k, drop-at x (flat xs ++ rest) w k)
     (ap (λ (r : List (List ℕ)). x ∷ r) (rows-flat w xs rest (λ y m. h y (List·Memᴰ·tail m))))
+
+-- ---- `starts`
+
+pub length-starts : (a : ℕ) (xs : List (List ℕ)) → length (startsFrom a xs) ≡ suc (length xs)
+unfolding startsFrom
+length-starts a [] = refl
+length-starts a (x ∷ xs) = ap suc (length-starts (a + length x) xs)
+
+-- row t starts after the rows before it
+pub starts-at : (a t : ℕ) (xs : List (List ℕ)) → t ≤ length xs → getD (startsFrom a xs) t 0 ≡ a + length (flat (take t xs))
+unfolding startsFrom flat
+starts-at a zero [] h = sym (add-zero a)
+starts-at a zero (x ∷ xs) h = sym (add-zero a)
+starts-at a (suc t) [] h = absurd (not-suc-le-zero h)
+starts-at a (suc t) (x ∷ xs) h =
+    starts-at (a + length x) t xs (le-of-suc-le-suc h) ∙ omega (arith, length-append x (flat (take t xs)))
+
+-- the first start is 0, the last the total
+pub starts-first : (xs : List (List ℕ)) → getD (starts xs) zero 0 ≡ 0
+unfolding flat
+starts-first xs = starts-at 0 0 xs (omega arith)
+
+pub starts-last : (xs : List (List ℕ)) → getD (starts xs) (length xs) 0 ≡ length (flat xs)
+starts-last xs = starts-at 0 (length xs) xs (omega arith) ∙ rw (take-length xs) (omega arith)
+
+-- row i's items are those from start i up to start i + 1
+rows-from : (xs : List (List ℕ)) (pre : List ℕ) (i : ℕ) → i < length xs
+    → slice (getD (startsFrom (length pre) xs) i 0) (getD (startsFrom (length pre) xs) (suc i) 0) (pre ++ flat xs) ≡ getD xs i []
+unfolding startsFrom flat
+rows-from [] pre i h = absurd (not-suc-le-zero h)
+rows-from (x ∷ xs) pre zero h =
+    ap (λ (n : ℕ). slice (length pre) n (pre ++ (x ++ flat xs))) (starts-at (length pre + length x) zero xs (omega arith) ∙ add-zero (length pre + length x))
+    ∙ ap (drop (length pre)) (take-append-add pre (x ++ flat xs) (length x)) ∙ drop-append-seam pre (take (length x) (x ++ flat xs)) ∙ take-append-seam x (flat xs)
+rows-from (x ∷ xs) pre (suc i) h =
+    rw (← length-append pre x, ← append-assoc pre x (flat xs)) (rows-from xs (pre ++ x) i (le-of-suc-le-suc h))
+
+pub starts-row : (xs : List (List ℕ)) (i : ℕ) → i < length xs → slice (getD (starts xs) i 0) (getD (starts xs) (suc i) 0) (flat xs) ≡ getD xs i []
+starts-row xs i h = rows-from xs [] i h
 
 -- ---- `over`
 

@@ -6,3 +6,4 @@ pub mod Sorting
 pub mod Chains
 pub mod Groups
 pub mod GroupSteps
+pub mod Loops
