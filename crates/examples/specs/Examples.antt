@@ -1,5 +1,5 @@
 -- The examples P1 to P9 of the scope paper as one list, and the one claim made of each: what a definition gives is what the paper says. Definitions only.
-use Prim.Native.Nat.{ℕ, suc, _/_, _%_}
+use Prim.Native.Nat.{ℕ, suc, _+_, _*_, _/_, _%_}
 use mathlib.Core.Path.{_≡_}
 use mathlib.Core.Bool.{Bool, true, cond}
 use mathlib.Core.List.{List, [], _∷_, _++_}
@@ -9,6 +9,11 @@ use lib.Ieee.{Float, nan, neg, lt}
 use Rattle.floats.specs.Ops.{_⊗_, dbl, zero, half, one, two}
 use Rattle.floats.specs.Algebra.{doubles}
 use Rattle.root.specs.Root.{rootOf}
+use Rattle.complex.specs.declared.Built.{Built}
+use Rattle.complex.specs.declared.Built.the-variants.{Done}
+use Rattle.complex.specs.declared.checks.Rooms.{Rooms}
+use Rattle.complex.specs.Complex.{triToPents}
+use Rattle.complex.specs.Builder.{sortedPents, checkOf, builtOf, builtNumber, builtPlace}
 use Rattle.geometry.specs.Determinant.{table, cofactor}
 use Rattle.geometry.specs.CayleyMenger.{cm}
 use Rattle.lorentzian.specs.Triangle.{areaSq, areaSqGrad}
@@ -26,6 +31,9 @@ pub data Answer : Type 0 where
   dihedrals : List Dihedral → Answer
   kind : HingeType → Answer
   truth : Bool → Answer
+  built : Built → Answer
+  naturals : List ℕ → Answer
+  rows : List (List ℕ) → Answer
 
 -- an example of the paper: its number, what the definitions give, and what the paper says
 pub record Example : Type 0 where
@@ -127,6 +135,61 @@ p4 =
     ∷ example 4 (dihedrals (pairs (lorentzianDihedral zeros))) (dihedrals (replicate 10 (Boost zero)))
     ∷ []
 
+-- ---- P5 and P6
+
+-- lists with just the room for P pentachorons
+abbrev pub roomsFor : ℕ → Rooms
+roomsFor P =
+    record {
+      pents = 5 * P;
+      edges = 20 * P;
+      triangles = 30 * P;
+      tets = 20 * P;
+      «tri_to_pents_items» = 10 * P;
+      «tri_to_pents_starts» = 10 * P + 1;
+      «edge_to_tris_items» = 30 * P;
+      «edge_to_tris_starts» = 10 * P + 1;
+      «edge_to_pents_items» = 10 * P;
+      «edge_to_pents_starts» = 10 * P + 1
+    }
+
+-- the builder's answer at vertex count n for a list of P pentachorons
+abbrev pub build : ℕ → ℕ → List ℕ → Built
+build n P given = builtOf (checkOf n given (roomsFor P)) n given
+
+-- pentachorons 01234 and 12345
+abbrev pub neighbours : List ℕ
+neighbours = 0 ∷ 1 ∷ 2 ∷ 3 ∷ 4 ∷ 1 ∷ 2 ∷ 3 ∷ 4 ∷ 5 ∷ []
+
+-- they have 14 edges, 16 triangles and 9 tets
+abbrev pub p5 : List Example
+p5 = example 5 (built (build 6 2 neighbours)) (built (Done (record { vertices = 6; pentachorons = 2; edges = 14; triangles = 16; tets = 9 }))) ∷ []
+
+-- pentachoron 4,3,2,1,0 twice
+abbrev pub twice : List ℕ
+twice = 4 ∷ 3 ∷ 2 ∷ 1 ∷ 0 ∷ 4 ∷ 3 ∷ 2 ∷ 1 ∷ 0 ∷ []
+
+-- it has 10 edges, and each triangle two pentachorons
+abbrev pub p6 : List Example
+p6 =
+    example 6 (built (build 5 2 twice)) (built (Done (record { vertices = 5; pentachorons = 2; edges = 10; triangles = 10; tets = 5 })))
+    ∷ example 6 (rows (triToPents (sortedPents twice))) (rows (replicate 10 (0 ∷ 1 ∷ [])))
+    ∷ []
+
+-- ---- P7 and P8
+
+-- the number and the place of a refusal
+abbrev pub refusal : Built → Answer
+refusal b = naturals (builtNumber b ∷ builtPlace b ∷ [])
+
+-- vertex 5 of 5 gives refusal 3
+abbrev pub p7 : List Example
+p7 = example 7 (refusal (build 5 1 (0 ∷ 1 ∷ 2 ∷ 3 ∷ 5 ∷ []))) (naturals (3 ∷ 0 ∷ [])) ∷ []
+
+-- 0,0,1,2,3 gives refusal 4
+abbrev pub p8 : List Example
+p8 = example 8 (refusal (build 5 1 (0 ∷ 0 ∷ 1 ∷ 2 ∷ 3 ∷ []))) (naturals (4 ∷ 0 ∷ [])) ∷ []
+
 -- ---- P9
 
 -- the root of 0.25 is 0.5, that of -1 NaN
@@ -137,4 +200,4 @@ p9 = example 9 (numbers (rootOf quarter ∷ rootOf (neg one) ∷ [])) (numbers (
 
 -- all examples
 abbrev pub examples : List Example
-examples = p1 ++ p2 ++ p3 (first mixed) ++ p3 (lorentzianDihedral mixed) ++ p3-ratio ++ p4 ++ p9
+examples = p1 ++ p2 ++ p3 (first mixed) ++ p3 (lorentzianDihedral mixed) ++ p3-ratio ++ p4 ++ p5 ++ p6 ++ p7 ++ p8 ++ p9
