@@ -3,7 +3,7 @@ use Prim.Native.Nat.{ℕ, zero, suc, _+_, _*_, _/_, _%_, _≤_, _<_}
 use mathlib.Core.Path.{_≡_, refl, sym, ap, _∙_}
 use mathlib.Core.List.{List, [], _∷_, _++_, map, List·Memᴰ}
 use native.Mathlib.Omega.{arith}
-use lib.ListN.{length, getD, take, length-map}
+use lib.ListN.{length, getD, take, length-map, getD-replicate}
 use lib.Seq.{getD-take, ext-getD}
 use Rattle.lists.specs.Lists.{gather, combos, Rising}
 use Rattle.lists.specs.Keys.{find, firsts}
@@ -31,8 +31,8 @@ three-edges (a ∷ b ∷ []) h = absurd (omega arith)
 three-edges (a ∷ b ∷ c ∷ d ∷ t) h = absurd (omega arith)
 
 -- the table of places is right
-all-edges : (p : List ℕ) → length p ≡ 5 → map (λ j. getD (combos p 2) j []) edgePlaces ≡ gather (λ t. combos t 2) (combos p 3)
-unfolding combos gather
+all-edges : (p : List ℕ) → length p ≡ 5 → map (map (λ j. getD (combos p 2) j [])) edgePlaces ≡ map (λ t. combos t 2) (combos p 3)
+unfolding combos
 all-edges (a ∷ b ∷ c ∷ d ∷ e ∷ []) h = refl
 all-edges [] h = absurd (omega arith)
 all-edges (a ∷ []) h = absurd (omega arith)
@@ -41,14 +41,16 @@ all-edges (a ∷ b ∷ c ∷ []) h = absurd (omega arith)
 all-edges (a ∷ b ∷ c ∷ d ∷ []) h = absurd (omega arith)
 all-edges (a ∷ b ∷ c ∷ d ∷ e ∷ f ∷ p) h = absurd (omega arith)
 
-three-wide : (p : List ℕ) → length p ≡ 5 → (t : List ℕ) → List·Memᴰ t (combos p 3) → length (combos t 2) ≡ 3
-three-wide p h t m = three-edges t (combos-length p 3 m)
+three-places : (q : ℕ) → q < 10 → length (getD edgePlaces q []) ≡ 3
+three-places q h =
+    sym (getD-map length edgePlaces q [] 0 h) ∙ getD-replicate 10 q 3 0 h
 
-one-edge : (p : List ℕ) → length p ≡ 5 → (b i : ℕ) → b < 10 → i < 3 → getD (combos p 2) (getD edgePlaces (3 * b + i) 0) [] ≡ getD (combos (getD (combos p 3) b []) 2) i []
+one-edge : (p : List ℕ) → length p ≡ 5 → (b i : ℕ) → b < 10 → i < 3 → getD (combos p 2) (getD (getD edgePlaces b []) i 0) [] ≡ getD (combos (getD (combos p 3) b []) 2) i []
 one-edge p h b i hb hi =
-    sym (getD-map (λ j. getD (combos p 2) j []) edgePlaces (3 * b + i) 0 [] (omega arith))
-    ∙ ap (λ (l : List (List ℕ)). getD l (3 * b + i) []) (all-edges p h)
-    ∙ gather-at (λ t. combos t 2) 3 (combos p 3) [] [] (three-wide p h) b i (omega (arith, count-faces Triangle p h)) hi
+    sym (getD-map (λ j. getD (combos p 2) j []) (getD edgePlaces b []) i 0 [] (rw (three-places b hb) hi))
+    ∙ ap (λ (r : List (List ℕ)). getD r i [])
+    (sym (getD-map (map (λ j. getD (combos p 2) j [])) edgePlaces b [] [] hb) ∙ ap (λ (l : List (List (List ℕ))). getD l b []) (all-edges p h)
+    ∙ getD-map (λ t. combos t 2) (combos p 3) b [] [] (omega (arith, count-faces Triangle p h)))
 
 -- ---- face numbers
 
@@ -98,12 +100,12 @@ module _ (ps : List (List ℕ)) (five : Wide 5 ps) (up : Sorted ps) where
       let b : k % 10 < 10 = omega arith in
       let p = getD ps (k / 10) [] in
       let h : length p ≡ 5 = five p (getD-mem ps (k / 10) [] a) in
-      let e = place-below (3 * (k % 10) + i) in
+      let e = place-below (k % 10) i in
       let z : 10 * (k / 10) + k % 10 ≡ k = omega arith in
       let t : getD (metFaces Triangle ps) k [] ≡ getD (combos p 3) (k % 10) [] = ap (λ (j : ℕ). getD (metFaces Triangle ps) j []) (sym z) ∙ met-at Triangle (k / 10) (k % 10) a b in
-      numbers-at Edge (10 * (k / 10) + getD edgePlaces (3 * (k % 10) + i) 0) (omega arith)
+      numbers-at Edge (10 * (k / 10) + getD (getD edgePlaces (k % 10) []) i 0) (omega arith)
       ∙ ap (λ (s : List ℕ). find s (edges ps))
-      (met-at Edge (k / 10) (getD edgePlaces (3 * (k % 10) + i) 0) a e ∙ one-edge p h (k % 10) i b hi ∙ ap (λ (s : List ℕ). getD (combos s 2) i []) (sym t ∙ sym (number-face Triangle k hk)))
+      (met-at Edge (k / 10) (getD (getD edgePlaces (k % 10) []) i 0) a e ∙ one-edge p h (k % 10) i b hi ∙ ap (λ (s : List ℕ). getD (combos s 2) i []) (sym t ∙ sym (number-face Triangle k hk)))
 
   -- ---- what the adjacency asks
 

@@ -20,23 +20,34 @@ belowTen : List ℕ → Bool
 belowTen [] = true
 belowTen (x ∷ xs) = ltb x 10 && belowTen xs
 
+-- all numbers of all rows are below ten
+allBelow : List (List ℕ) → Bool
+allBelow [] = true
+allBelow (r ∷ rs) = belowTen r && allBelow rs
+
+first : (a b : Bool) → T (a && b) → T a
+first true b t = tt
+first false b t = t
+
+rest : (a b : Bool) → T (a && b) → T b
+rest true b t = t
+rest false b t = absurd t
+
 below-ten : (xs : List ℕ) → T (belowTen xs) → (j : ℕ) → getD xs j 0 < 10
 unfolding belowTen
 below-ten [] t j = omega arith
 below-ten (x ∷ xs) t zero = ltb→lt x 10 (first (ltb x 10) (belowTen xs) t)
-  where
-    first : (a b : Bool) → T (a && b) → T a
-    first true b t = tt
-    first false b t = t
 below-ten (x ∷ xs) t (suc j) = below-ten xs (rest (ltb x 10) (belowTen xs) t) j
-  where
-    rest : (a b : Bool) → T (a && b) → T b
-    rest true b t = t
-    rest false b t = absurd t
 
-pub place-below : (j : ℕ) → getD edgePlaces j 0 < 10
-unfolding belowTen
-place-below j = below-ten edgePlaces tt j
+all-below : (rs : List (List ℕ)) → T (allBelow rs) → (q i : ℕ) → getD (getD rs q []) i 0 < 10
+unfolding allBelow
+all-below [] t q i = omega arith
+all-below (r ∷ rs) t zero i = below-ten r (first (belowTen r) (allBelow rs) t) i
+all-below (r ∷ rs) t (suc q) i = all-below rs (rest (belowTen r) (allBelow rs) t) q i
+
+pub place-below : (q i : ℕ) → getD (getD edgePlaces q []) i 0 < 10
+unfolding belowTen allBelow
+place-below q i = all-below edgePlaces tt q i
 
 -- ---- three stores
 
@@ -119,7 +130,7 @@ module _ (pe pt te : List ℕ) (k room : ℕ) (ok : Consistent pe pt room) (insi
 pub edge-at-below : (pe pt : List ℕ) (E room k i : ℕ) → Consistent pe pt room → Below pe E → k < length pt → i < 3 → edgeAt pe k i < E
 unfolding edgeAt
 edge-at-below pe pt E room k i ok below hk hi =
-    below (10 * (k / 10) + getD edgePlaces (3 * (k % 10) + i) 0) (omega (arith, ok .whole, ok .alike, place-below (3 * (k % 10) + i)))
+    below (10 * (k / 10) + getD (getD edgePlaces (k % 10) []) i 0) (omega (arith, ok .whole, ok .alike, place-below (k % 10) i))
 
 module _ (pe pt te : List ℕ) (E T scratch : ℕ) (lent : Lent) (adj : Adjacent pe pt E T scratch lent) (long : length te ≡ scratch) (edges : EdgesOf pe pt te (length pt)) where
   pub length-triangles : length (take (3 * T) te) ≡ 3 * T

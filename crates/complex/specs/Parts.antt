@@ -32,13 +32,23 @@ pub record Numbered (f : Face) (ps : List (List ℕ)) (list list′ numbers numb
 -- ---- the edges of triangles
 
 -- where each triangle's three edges stand among the ten edges of its pentachoron
-abbrev pub edgePlaces : List ℕ
+abbrev pub edgePlaces : List (List ℕ)
 edgePlaces =
-    0 ∷ 1 ∷ 4 ∷ 0 ∷ 2 ∷ 5 ∷ 0 ∷ 3 ∷ 6 ∷ 1 ∷ 2 ∷ 7 ∷ 1 ∷ 3 ∷ 8 ∷ 2 ∷ 3 ∷ 9 ∷ 4 ∷ 5 ∷ 7 ∷ 4 ∷ 6 ∷ 8 ∷ 5 ∷ 6 ∷ 9 ∷ 7 ∷ 8 ∷ 9 ∷ []
+    (0 ∷ 1 ∷ 4 ∷ [])
+    ∷ (0 ∷ 2 ∷ 5 ∷ [])
+    ∷ (0 ∷ 3 ∷ 6 ∷ [])
+    ∷ (1 ∷ 2 ∷ 7 ∷ [])
+    ∷ (1 ∷ 3 ∷ 8 ∷ [])
+    ∷ (2 ∷ 3 ∷ 9 ∷ [])
+    ∷ (4 ∷ 5 ∷ 7 ∷ [])
+    ∷ (4 ∷ 6 ∷ 8 ∷ [])
+    ∷ (5 ∷ 6 ∷ 9 ∷ [])
+    ∷ (7 ∷ 8 ∷ 9 ∷ [])
+    ∷ []
 
 -- the number of edge i of the triangle that is met as the k-th, by the edge numbers of its pentachoron
 unfoldable pub edgeAt : List ℕ → ℕ → ℕ → ℕ
-edgeAt pe k i = getD pe (10 * (k / 10) + getD edgePlaces (3 * (k % 10) + i) 0) 0
+edgeAt pe k i = getD pe (10 * (k / 10) + getD (getD edgePlaces (k % 10) []) i 0) 0
 
 -- the edge numbers pe and triangle numbers pt of whole pentachorons; a triangle has the same edges wherever it is met, and room for them
 pub record Consistent (pe pt : List ℕ) (room : ℕ) : Type 0 where

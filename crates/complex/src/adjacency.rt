@@ -8,37 +8,17 @@ ghost use Rattle.lists.specs.Groups.{groups};
 ghost use Rattle.complex.specs.Parts.{edgeAt, Consistent, EdgesOf, Lent, Adjacent};
 
 // Where each triangle's three edges stand among the ten edges of its pentachoron.
-const TRI_EDGES: [usize; 30] = [
-    0,
-    1,
-    4,
-    0,
-    2,
-    5,
-    0,
-    3,
-    6,
-    1,
-    2,
-    7,
-    1,
-    3,
-    8,
-    2,
-    3,
-    9,
-    4,
-    5,
-    7,
-    4,
-    6,
-    8,
-    5,
-    6,
-    9,
-    7,
-    8,
-    9,
+const TRI_EDGES: [[usize; 3]; 10] = [
+    [0, 1, 4],
+    [0, 2, 5],
+    [0, 3, 6],
+    [1, 2, 7],
+    [1, 3, 8],
+    [2, 3, 9],
+    [4, 5, 7],
+    [4, 6, 8],
+    [5, 6, 9],
+    [7, 8, 9],
 ];
 
 // The number of edge i of the triangle that is met as the k-th.
@@ -46,7 +26,7 @@ fn edge_at(pent_edges: &[u32], k: usize, i: usize) -> u32
     requires { ⌜ (length (now «pent_edges») % 10 ≡ 0) × (k < length (now «pent_edges»)) × (i < 3) ⌝ }
     ensures { λ r. ⌜ r ≡ edgeAt (now («pent_edges» .entry)) k i ⌝ }
 {
-    let place = TRI_EDGES[3 * (k % 10) + i];
+    let place = TRI_EDGES[k % 10][i];
     pent_edges[10 * (k / 10) + place]
 }
 

@@ -1,13 +1,51 @@
 // The faces of pentachorons, numbered by first meeting.
 use lists::meet_rows;
 ghost use mathlib.Core.Path.{_≡_};
-ghost use mathlib.Core.List.{[], _∷_};
+ghost use mathlib.Core.List.{[], _∷_, _++_, map};
 ghost use Prim.Native.Nat.{_+_, _/_, _≤_};
-ghost use lib.ListN.{length, take, drop};
-ghost use Rattle.lists.specs.Lists.{combos};
+ghost use lib.ListN.{length, getD, take, drop};
+ghost use Rattle.lists.specs.Lists.{upto};
 ghost use Rattle.lists.specs.Rows.{rows};
 ghost use Rattle.complex.specs.Complex.{widthOf, countOf, facesOf};
 ghost use Rattle.complex.specs.Parts.{Faces, Numbered};
+
+// Two lists of numbers, one after the other.
+fn joined(x: [u32; 20], y: [u32; 10]) -> [u32; 30]
+    ensures { λ r. ⌜ r ≡ map (λ i. getD x i 0) (upto 20) ++ map (λ i. getD y i 0) (upto 10) ⌝ }
+{
+    [
+        x[0],
+        x[1],
+        x[2],
+        x[3],
+        x[4],
+        x[5],
+        x[6],
+        x[7],
+        x[8],
+        x[9],
+        x[10],
+        x[11],
+        x[12],
+        x[13],
+        x[14],
+        x[15],
+        x[16],
+        x[17],
+        x[18],
+        x[19],
+        y[0],
+        y[1],
+        y[2],
+        y[3],
+        y[4],
+        y[5],
+        y[6],
+        y[7],
+        y[8],
+        y[9],
+    ]
+}
 
 // The kinds of faces that are numbered.
 pub enum Face {
@@ -44,102 +82,18 @@ impl Face {
         ensures { λ r. ⌜ rows (widthOf self) (countOf self) r ≡ facesOf self (a ∷ b ∷ c ∷ d ∷ e ∷ []) ⌝ }
     {
         match self {
-            Face::Edge => [
-                a,
-                b,
-                a,
-                c,
-                a,
-                d,
-                a,
-                e,
-                b,
-                c,
-                b,
-                d,
-                b,
-                e,
-                c,
-                d,
-                c,
-                e,
-                d,
-                e,
-                0,
-                0,
-                0,
-                0,
-                0,
-                0,
-                0,
-                0,
-                0,
-                0,
-            ],
-            Face::Triangle => [
-                a,
-                b,
-                c,
-                a,
-                b,
-                d,
-                a,
-                b,
-                e,
-                a,
-                c,
-                d,
-                a,
-                c,
-                e,
-                a,
-                d,
-                e,
-                b,
-                c,
-                d,
-                b,
-                c,
-                e,
-                b,
-                d,
-                e,
-                c,
-                d,
-                e,
-            ],
-            Face::Tet => [
-                b,
-                c,
-                d,
-                e,
-                a,
-                c,
-                d,
-                e,
-                a,
-                b,
-                d,
-                e,
-                a,
-                b,
-                c,
-                e,
-                a,
-                b,
-                c,
-                d,
-                0,
-                0,
-                0,
-                0,
-                0,
-                0,
-                0,
-                0,
-                0,
-                0,
-            ],
+            Face::Edge => joined(
+                [a, b, a, c, a, d, a, e, b, c, b, d, b, e, c, d, c, e, d, e],
+                [0; 10],
+            ),
+            Face::Triangle => joined(
+                [a, b, c, a, b, d, a, b, e, a, c, d, a, c, e, a, d, e, b, c],
+                [d, b, c, e, b, d, e, c, d, e],
+            ),
+            Face::Tet => joined(
+                [b, c, d, e, a, c, d, e, a, b, d, e, a, b, c, e, a, b, c, d],
+                [0; 10],
+            ),
         }
     }
 

@@ -150,7 +150,7 @@ roomsFor P =
       «edge_to_tris_items» = 30 * P;
       «edge_to_tris_starts» = 10 * P + 1;
       «edge_to_pents_items» = 10 * P;
-      «edge_to_pents_starts» = 10 * P + 1
+      «edge_to_pents_starts» = 10 * P + 1;
     }
 
 -- the builder's answer at vertex count n for a list of P pentachorons

@@ -12,34 +12,34 @@ use Rattle.complex.proofs.adjacency.edge_at.Tie as tie
 mul-place : tie.Need-mul-place
 mul-place c = search needs
 
-add-place : tie.Need-add-place
-add-place c = search needs
-
 mul-place-2 : tie.Need-mul-place-2
 mul-place-2 c = search needs
 
-array-read-place : tie.Need-array-read-place
-array-read-place c = search needs
+index-1-place : tie.Need-index-1-place
+index-1-place c = search needs
+
+index-2-place : tie.Need-index-2-place
+index-2-place c = search needs
 
 mul-result : tie.Need-mul-result
 mul-result c = search needs
 
 add-result : tie.Need-add-result
 add-result c =
-    let a = (c .args) in
-    let b = place-below (3 * (a .k % 10) + a .i) in
+    let a = (c .before .args) in
+    let b = place-below (a .k % 10) (a .i) in
     omega arith
 
 mul-result-2 : tie.Need-mul-result-2
 mul-result-2 c =
-    let a = (c .args) in
-    let b = place-below (3 * (a .k % 10) + a .i) in
+    let a = (c .before .args) in
+    let b = place-below (a .k % 10) (a .i) in
     omega arith
 
 shared-slice-read-result : tie.Need-shared-slice-read-result
 shared-slice-read-result c =
-    let a = (c .before .args) in
-    let b = place-below (3 * (a .k % 10) + a .i) in
+    let a = (c .before .before .args) in
+    let b = place-below (a .k % 10) (a .i) in
     omega arith
 
 returns : tie.Need-returns
@@ -51,9 +51,9 @@ edge-at-spec =
     tie.close
     (tie.spec
     mul-place
-    add-place
     mul-place-2
-    array-read-place
+    index-1-place
+    index-2-place
     mul-result
     add-result
     mul-result-2
