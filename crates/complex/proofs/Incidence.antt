@@ -1,17 +1,14 @@
 -- Faces and the rows in which they lie: each face of each row is found, and the numbers of a row's faces, grouped, are the rows in which each face lies. Assumes nothing.
-use Prim.Native.Nat.{ℕ, zero, suc, _+_, _*_, _/_, _%_, _≤_, _<_}
-use mathlib.Core.Path.{_≡_, refl, sym, ap, _∙_, subst}
-use mathlib.Core.Bool.{Bool, true, false}
-use mathlib.Core.Logic.{⊎-elim}
-use mathlib.Core.List.{List, [], _∷_, _++_, map, reverse, List·Memᴰ, Memᴰ·map, Memᴰ·of-map, Memᴰ·cast}
-use native.Mathlib.Omega.{arith}
+use Prim.Native.Nat.{ℕ, _<_}
+use mathlib.Core.Path.{_≡_, sym, ap, _∙_, subst}
+use mathlib.Core.List.{List, [], map, List·Memᴰ, Memᴰ·map, Memᴰ·of-map, Memᴰ·cast}
 use lib.ListN.{length, getD, length-map}
 use Rattle.lists.specs.Lists.{keep, gather, upto, combos, among, within, Within, Rising, Once}
-use Rattle.lists.specs.Keys.{find, firsts, Distinct}
-use Rattle.lists.specs.Rows.{flat, Wide}
-use Rattle.lists.specs.Groups.{holders, groups, Below}
+use Rattle.lists.specs.Keys.{find, Distinct}
+use Rattle.lists.specs.Rows.{Wide}
+use Rattle.lists.specs.Groups.{holders, groups}
 use Rattle.lists.proofs.Tests.{says-same}
-use Rattle.lists.proofs.Elements.{getD-mem, mem-getD, getD-map, getD-table, map-upto, map-same, keep-same, gather-mem, mem-gather, mem-upto, mem-reverse, reverse-mem, length-upto, once-map, among-says, within-says}
+use Rattle.lists.proofs.Elements.{getD-mem, getD-map, map-upto, map-same, keep-same, gather-mem, mem-gather, mem-upto, mem-reverse, reverse-mem, once-map, among-says, within-says}
 use Rattle.lists.proofs.Keys.{find-get, find-mem, firsts-distinct, firsts-has, firsts-only}
 use Rattle.lists.proofs.Choices.{combos-within, combos-rising, combos-has, combos-once}
 use Rattle.lists.proofs.Rows.{flat-map}

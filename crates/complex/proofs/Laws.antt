@@ -1,34 +1,30 @@
 -- Laws of what the builder writes: pentachorons are kept and sorted, adjacency lists ascend, and a sorted list is built into the same lists. Assumes nothing.
 -- That no face stands twice and each is found at one index is `faces-distinct` and `faces-found`; that a face's list holds exactly the rows in which it lies is `mem-holding` and `holding-mem` (Incidence).
-use Prim.Native.Nat.{ℕ, zero, suc, _+_, _*_, _/_, _%_, _≤_, _<_}
+use Prim.Native.Nat.{ℕ, _+_, _/_, _%_, _<_}
 use mathlib.Core.Path.{_≡_, refl, sym, ap, _∙_, subst}
-use mathlib.Core.Bool.{Bool, false}
+use mathlib.Core.Bool.{false}
 use mathlib.Core.Logic.{⊎-elim}
-use mathlib.Core.List.{List, [], _∷_, _++_, map, append-nil, List·Memᴰ, List·Memᴰ·head, List·Memᴰ·tail, List·Memᴰ·cases-cons, List·Memᴰ·not-nil}
+use mathlib.Core.List.{List, [], _∷_, map, append-nil, List·Memᴰ, List·Memᴰ·head, List·Memᴰ·tail, List·Memᴰ·cases-cons, List·Memᴰ·not-nil}
 use native.Mathlib.Omega.{arith}
-use lib.Dec.{eqb, leb}
-use lib.ListN.{length, getD, length-map}
-use borrow.Author.Tests.{leb-true, leb-false, lt-leb}
-use Rattle.refusals.specs.declared.Outcome.{Outcome}
+use lib.Dec.{leb}
+use lib.ListN.{length, getD}
+use borrow.Author.Tests.{leb-false, lt-leb}
 use Rattle.refusals.specs.declared.Outcome.the-variants.{Done}
-use Rattle.lists.specs.Lists.{keep, upto, among, within, Rising, Once}
-use Rattle.lists.specs.Rows.{flat, rows, Wide}
+use Rattle.lists.specs.Lists.{upto, within, Rising, Once}
+use Rattle.lists.specs.Rows.{flat, rows}
 use Rattle.lists.specs.Sorting.{sort, Ascending, times}
 use Rattle.lists.proofs.Tests.{fails}
-use Rattle.lists.proofs.Elements.{getD-mem, getD-map, map-same, keep-rising, upto-rising, among-says}
+use Rattle.lists.proofs.Elements.{getD-map, keep-rising, upto-rising, among-says}
 use Rattle.lists.proofs.Rows.{length-rows, rows-flat, length-flat}
 use Rattle.lists.proofs.Sorting.{sort-ascending, sort-times, sort-mem, sort-once, sort-sorted}
 use Rattle.complex.specs.Complex.{holding}
-use Rattle.complex.specs.Builder.{pentachorons, sortedPents, tooLarge, repeats, offence, checkOf, isShort, builtOf, Lists, roomsOf, listsAfter}
+use Rattle.complex.specs.Builder.{pentachorons, sortedPents, tooLarge, repeats, offence, checkOf, builtOf, Lists, roomsOf, listsAfter}
 use Rattle.complex.proofs.Sorted.{sorted-wide-all, length-sorted-all, sorted-is, sorted-of}
 use Rattle.complex.proofs.Offences.{or-false, offence-done, once-of, passed, check-same}
 
 -- ---- the pentachorons
 
--- there are as many as were given, repeated ones too, and each is the sort of the one at its place
-pub pentachorons-kept : (given : List ℕ) → length (sortedPents given) ≡ length given / 5
-pentachorons-kept given = length-sorted-all given
-
+-- each is the sort of the one at its place; there are as many as were given (`length-sorted-all`), repeated ones too
 pub pentachoron-at : (given : List ℕ) (k : ℕ) → k < length given / 5 → getD (sortedPents given) k [] ≡ sort (getD (pentachorons given) k [])
 unfolding sortedPents
 pentachoron-at given k h = getD-map sort (pentachorons given) k [] [] (omega (arith, length-rows 5 (length given / 5) given))

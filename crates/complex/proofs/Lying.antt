@@ -1,24 +1,23 @@
 -- The face numbers of sorted pentachorons, and the adjacency lists that grouping them gives. Assumes nothing.
-use Prim.Native.Nat.{ℕ, zero, suc, _+_, _*_, _/_, _%_, _≤_, _<_}
+use Prim.Native.Nat.{ℕ, _+_, _*_, _/_, _%_, _≤_, _<_}
 use mathlib.Core.Path.{_≡_, refl, sym, ap, _∙_}
-use mathlib.Core.List.{List, [], _∷_, _++_, map, List·Memᴰ}
+use mathlib.Core.List.{List, [], _∷_, map, List·Memᴰ}
 use native.Mathlib.Omega.{arith}
 use lib.ListN.{length, getD, take, length-map, getD-replicate}
 use lib.Seq.{getD-take, ext-getD}
-use Rattle.lists.specs.Lists.{gather, combos, Rising}
-use Rattle.lists.specs.Keys.{find, firsts}
+use Rattle.lists.specs.Lists.{gather, combos}
+use Rattle.lists.specs.Keys.{find}
 use Rattle.lists.specs.Rows.{Wide}
 use Rattle.lists.specs.Groups.{groups, Below}
 use Rattle.lists.proofs.Elements.{getD-mem, mem-getD, getD-map, map-gather, gather-at, length-gather}
-use Rattle.lists.proofs.Choices.{combos-length}
 use Rattle.lists.proofs.Keys.{find-get, find-mem, firsts-room, firsts-has, firsts-only}
 use Rattle.complex.specs.declared.numbering.Face.{Face}
-use Rattle.complex.specs.declared.numbering.Face.the-variants.{Edge, Triangle, Tet}
-use Rattle.complex.specs.Complex.{widthOf, countOf, facesOf, metFaces, faces, edges, triangles, holding, triToPents, edgeToTris, edgeToPents}
-use Rattle.complex.specs.Parts.{numbersOf, edgePlaces, edgeAt, Consistent, EdgesOf, Lent, Adjacent}
+use Rattle.complex.specs.declared.numbering.Face.the-variants.{Edge, Triangle}
+use Rattle.complex.specs.Complex.{countOf, facesOf, metFaces, faces, edges, triangles, triToPents, edgeToTris, edgeToPents}
+use Rattle.complex.specs.Parts.{numbersOf, edgePlaces, edgeAt, Consistent, EdgesOf}
 use Rattle.complex.proofs.Meetings.{count-faces, length-met}
-use Rattle.complex.proofs.TriangleEdges.{place-below, length-triangles}
-use Rattle.complex.proofs.Incidence.{Sorted, Keyed, rowNumbers, faces-distinct, faces-has, faces-only, face-rising, edge-of-triangle, groups-holding}
+use Rattle.complex.proofs.TriangleEdges.{place-below}
+use Rattle.complex.proofs.Incidence.{Sorted, Keyed, rowNumbers, faces-distinct, faces-has, face-rising, edge-of-triangle, groups-holding}
 
 -- ---- edges of triangles within five vertices
 

@@ -1,17 +1,17 @@
 -- The faces of pentachorons as they are met. Assumes nothing.
-use Prim.Native.Nat.{ℕ, suc, _+_, _*_, _≤_, _<_}
+use Prim.Native.Nat.{ℕ, _+_, _*_, _≤_, _<_}
 use mathlib.Core.Path.{_≡_, refl, sym, ap, _∙_}
-use mathlib.Core.List.{List, [], _∷_, _++_, List·Memᴰ, List·Memᴰ·head, List·Memᴰ·tail}
+use mathlib.Core.List.{List, [], _∷_, _++_, List·Memᴰ·head, List·Memᴰ·tail}
 use native.Mathlib.Nat.{mul-suc, mul-zero, mul-le-mul-left}
 use native.Mathlib.Numerals.{add-one}
 use native.Mathlib.Omega.{arith}
 use lib.ListN.{length, take, drop, length-append}
 use Rattle.lists.specs.Lists.{gather, combos}
 use Rattle.lists.specs.Rows.{rows, Wide}
-use Rattle.lists.specs.Chains.{Indexed, Ready, Met}
+use Rattle.lists.specs.Chains.{Ready, Met}
 use Rattle.lists.proofs.Elements.{gather-snoc}
 use Rattle.lists.proofs.Rows.{length-rows, rows-snoc, rows-wide, row-below}
-use Rattle.lists.proofs.Chains.{indexed-none, met-firsts, met-count, met-rows, met-numbers}
+use Rattle.lists.proofs.Chains.{indexed-none, met-count, met-rows, met-numbers}
 use Rattle.complex.specs.declared.numbering.Face.{Face}
 use Rattle.complex.specs.declared.numbering.Face.the-variants.{Edge, Triangle, Tet}
 use Rattle.complex.specs.Complex.{widthOf, countOf, facesOf, metFaces, faces}

@@ -1,14 +1,14 @@
 -- What the Rust's loops push is what the definitions say: the rows in which each face lies, ascending. Assumes nothing.
 use Prim.Native.Nat.{ℕ, _<_}
 use mathlib.Core.Path.{_≡_, refl, sym, ap, _∙_, subst}
-use mathlib.Core.Bool.{Bool, true, false, cond}
+use mathlib.Core.Bool.{Bool, cond}
 use mathlib.Core.List.{List, [], _∷_, _++_, map, foldl, append-nil, append-assoc, List·Memᴰ, Memᴰ·of-map}
 use lib.ListN.{length, getD, replicate, length-replicate, getD-replicate, length-map}
 use lib.Seq.{ext-getD}
-use Rattle.lists.specs.Lists.{keep, gather, upto, combos, within, Within}
+use Rattle.lists.specs.Lists.{gather, upto, combos, within, Within}
 use Rattle.lists.specs.Keys.{find}
 use Rattle.lists.specs.Rows.{Wide}
-use Rattle.lists.specs.Loops.{scatter, hits}
+use Rattle.lists.specs.Loops.{hits}
 use Rattle.lists.proofs.Tests.{Says, pass, fail}
 use Rattle.lists.proofs.Elements.{getD-mem, getD-map, mem-upto, within-says}
 use Rattle.lists.proofs.Keys.{find-get}

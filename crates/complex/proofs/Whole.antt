@@ -1,13 +1,12 @@
 -- The builder as a whole: what its parts leave, joined. Assumes nothing.
-use Prim.Native.Nat.{ℕ, _+_, _*_, _/_, _%_, _≤_, _<_}
+use Prim.Native.Nat.{ℕ, _*_, _/_, _≤_}
 use mathlib.Core.Path.{_≡_, refl, sym, ap, _∙_, subst}
-use mathlib.Core.List.{List, [], _∷_, _++_, map, append-nil, List·Memᴰ, Memᴰ·of-map}
+use mathlib.Core.List.{List, [], append-nil, List·Memᴰ, Memᴰ·of-map}
 use native.Mathlib.Nat.{mul-le-mul-right}
 use native.Mathlib.Omega.{arith}
-use lib.ListN.{length, getD, take, replicate, length-replicate}
-use lib.Seq.{length-take-le}
-use Rattle.lists.specs.Lists.{Once, Rising}
-use Rattle.lists.specs.Rows.{flat, rows, starts, Wide, over}
+use lib.ListN.{length, take, replicate, length-replicate}
+use Rattle.lists.specs.Lists.{Rising}
+use Rattle.lists.specs.Rows.{flat, rows, starts, over}
 use Rattle.lists.specs.Sorting.{sort}
 use Rattle.lists.specs.Groups.{groups}
 use Rattle.lists.proofs.Rows.{length-flat, rows-flat, over-take}
@@ -17,7 +16,7 @@ use Rattle.complex.specs.declared.numbering.Face.{Face}
 use Rattle.complex.specs.declared.numbering.Face.the-variants.{Edge, Triangle, Tet}
 use Rattle.complex.specs.Complex.{widthOf, countOf, faces, edges, triangles, tets, triToPents, edgeToTris, edgeToPents}
 use Rattle.complex.specs.Builder.{pentachorons, sortedPents, countsOf, Lists, lists, written, overAll}
-use Rattle.complex.specs.Parts.{Faces, Numbered, numbersOf, Consistent, EdgesOf, Lent, Adjacent, Buildable}
+use Rattle.complex.specs.Parts.{Faces, Numbered, numbersOf, EdgesOf, Lent, Adjacent, Buildable}
 use Rattle.complex.proofs.Sorted.{sorted-wide-all, length-sorted-all}
 use Rattle.complex.proofs.Meetings.{count-le}
 use Rattle.complex.proofs.Incidence.{Sorted}

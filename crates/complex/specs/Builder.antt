@@ -1,11 +1,10 @@
 -- The builder `from_pentachorons`: when it refuses, what it answers, and what it leaves in the lent lists. Definitions only.
-use Prim.Native.Nat.{ℕ, suc, _+_, _*_, _/_, _%_}
+use Prim.Native.Nat.{ℕ, _+_, _*_, _/_, _%_}
 use mathlib.Core.Path.{_≡_}
 use mathlib.Core.Bool.{Bool, false, not, cond, _||_}
 use mathlib.Core.List.{List, [], _∷_, map}
 use lib.Dec.{eqb, ltb, leb}
 use lib.ListN.{length}
-use Rattle.refusals.specs.declared.Refusal.{Refusal}
 use Rattle.refusals.specs.declared.Refusal.the-variants.{VertexCount, ListLength, ShortRoom, VertexTooLarge, RepeatedVertex}
 use Rattle.refusals.specs.declared.Outcome.{Outcome}
 use Rattle.refusals.specs.declared.Outcome.the-variants as Outcome

@@ -5,7 +5,7 @@ ghost use Prim.Native.Nat.{_*_, _%_, _<_};
 ghost use lib.ListN.{length, take};
 ghost use Rattle.lists.specs.Rows.{flat, starts, over};
 ghost use Rattle.lists.specs.Groups.{groups};
-ghost use Rattle.complex.specs.Parts.{edgeAt, Consistent, EdgesOf, Lent, Adjacent};
+ghost use Rattle.complex.specs.Parts.{edgeAt, Consistent, EdgesOf, Adjacent};
 
 // Where each triangle's three edges stand among the ten edges of its pentachoron.
 const TRI_EDGES: [[usize; 3]; 10] = [

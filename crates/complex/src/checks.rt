@@ -3,9 +3,7 @@ use refusals::Outcome;
 use refusals::Refusal;
 ghost use mathlib.Core.Path.{_≡_};
 ghost use Prim.Native.Nat.{_+_, _*_, _/_, _≤_};
-ghost use lib.ListN.{length};
 ghost use Rattle.lists.specs.Lists.{among};
-ghost use Rattle.lists.specs.Rows.{rows};
 ghost use Rattle.complex.specs.Builder.{tooLarge, repeats, offence, isShort, checkOf, pentachorons};
 
 // The lengths of the lent lists.

@@ -3,8 +3,9 @@ use Prim.Native.Nat.{ℕ}
 use mathlib.Core.Path.{_≡_}
 use mathlib.Core.List.{List, [], _∷_}
 use lib.ListN.{getD}
+use Rattle.complex.specs.declared.Built as Complex
 use Rattle.complex.specs.declared.Counts.{Counts}
-use Rattle.complex.specs.Builder.{checkOf, builtOf, builtNumber, builtPlace, countsOr, Lists, roomsOf, listsAfter}
+use Rattle.complex.specs.Builder.{builtNumber, builtPlace, countsOr, Lists, Builds}
 
 -- counts as numbers
 abbrev pub countsList : Counts → List ℕ
@@ -14,9 +15,10 @@ countsList c = c .vertices ∷ c .pentachorons ∷ c .edges ∷ c .triangles ∷
 abbrev pub countsOfList : List ℕ → Counts
 countsOfList c = record { vertices = getD c 0 0; pentachorons = getD c 1 0; edges = getD c 2 0; triangles = getD c 3 0; tets = getD c 4 0 }
 
--- the builder at vertex count n and a pentachoron list: the number r, and the lists, counts and place after it
+-- the builder at vertex count n and a pentachoron list: its answer in plain numbers, and the lists, counts and place after it
 pub record Built (n : ℕ) (given : List ℕ) (before : Lists) (counts : List ℕ) (r : ℕ) (after : Lists) (counts′ : List ℕ) (place : ℕ) : Type 0 where
-  pub numbered : r ≡ builtNumber (builtOf (checkOf n given (roomsOf before)) n given)
-  pub placed : place ≡ builtPlace (builtOf (checkOf n given (roomsOf before)) n given)
-  pub counted : counts′ ≡ countsList (countsOr (builtOf (checkOf n given (roomsOf before)) n given) (countsOfList counts))
-  pub left : after ≡ listsAfter (checkOf n given (roomsOf before)) given before
+  pub answer : Complex.Built
+  pub builds : Builds n given before answer after
+  pub numbered : r ≡ builtNumber answer
+  pub placed : place ≡ builtPlace answer
+  pub counted : counts′ ≡ countsList (countsOr answer (countsOfList counts))

@@ -1,15 +1,15 @@
 -- Chains of rows: the walk down a chain finds a row or shows that it is not there, and one row more is entered. Assumes nothing.
 use mathlib.Core.Path.{_≡_, refl, sym, ap, _∙_, subst}
-use mathlib.Core.Logic.{_⊎_, inl, inr, ⊎-elim}
+use mathlib.Core.Logic.{_⊎_, ⊎-elim}
 use mathlib.Core.Bool.{_&&_}
 use mathlib.Core.List.{List, [], _∷_, _++_, map, foldl, foldl-append, map-append, append-assoc, append-nil}
-use Prim.Native.Nat.{ℕ, zero, suc, _+_, _*_, _-_, _%_, _≤_, _<_}
+use Prim.Native.Nat.{ℕ, zero, suc, _+_, _*_, _-_, _≤_, _<_}
 use native.Mathlib.Nat.{add-zero, mul-suc, mul-le-mul-left}
 use native.Mathlib.Numerals.{add-one}
 use native.Mathlib.Omega.{arith}
 use lib.Dec.{eqb}
-use lib.ListN.{length, getD, take, drop, set, replicate, length-replicate, length-append, length-set, length-drop, length-map, take-append-drop, List·getD-append}
-use lib.Seq.{append-snoc, drop-cons, take-suc, take-all, getD-set-same, getD-set-other, getD-at, drop-drop, take-at, drop-at, length-take-le, set-split, take-add, take-append-le, drop-append-le}
+use lib.ListN.{length, getD, take, drop, set, replicate, length-replicate, length-append, length-set, length-map, take-append-drop, List·getD-append}
+use lib.Seq.{append-snoc, drop-cons, take-suc, take-all, getD-set-same, getD-set-other, getD-at, drop-drop, take-at, drop-at, length-take-le, set-split}
 use Rattle.lists.specs.Keys.{eqs, find, meet, firsts, Distinct}
 use Rattle.lists.specs.Rows.{flat, rows, over}
 use Rattle.lists.specs.Chains.{mix, hash, chainAt, Indexed, Ready, Met}

@@ -1,16 +1,14 @@
 -- Rows in flat lists: what is written flat is read back, and what a list with room holds. Assumes nothing.
 use mathlib.Core.Path.{_≡_, refl, sym, ap, _∙_}
-use mathlib.Core.List.{List, [], _∷_, _++_, map, append-assoc, append-nil, List·Memᴰ, List·Memᴰ·head, List·Memᴰ·tail, List·Memᴰ·cases-cons, List·Memᴰ·not-nil}
+use mathlib.Core.List.{List, [], _∷_, _++_, map, append-assoc, append-nil, List·Memᴰ·head, List·Memᴰ·tail, List·Memᴰ·cases-cons, List·Memᴰ·not-nil}
 use mathlib.Core.Logic.{⊎-elim}
 use Prim.Native.Nat.{ℕ, zero, suc, _+_, _*_, _-_, _≤_, _<_}
 use native.Mathlib.Nat.{le-of-suc-le-suc, not-suc-le-zero, add-zero, mul-suc, mul-zero, mul-le-mul-left}
-use native.Mathlib.Numerals.{add-one}
 use native.Mathlib.Omega.{arith}
 use lib.ListN.{length, getD, take, drop, length-append, length-drop, take-append-drop}
 use lib.Seq.{drop-drop, take-add, take-at, drop-at, length-take-le, take-all, take-length, slice, take-append-add, take-append-seam, drop-append-seam}
 use Rattle.lists.specs.Lists.{gather}
 use Rattle.lists.specs.Rows.{flat, rows, Wide, startsFrom, starts, over}
-use Rattle.lists.proofs.Elements.{getD-mem}
 
 -- ---- `rows`
 

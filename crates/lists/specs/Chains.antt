@@ -1,7 +1,7 @@
 -- Rows searched by chains, one chain for each value of a small hash, and numbered as they are met. Definitions only.
 use Prim.Native.Nat.{ℕ, _+_, _*_, _-_, _%_, _≤_, _<_}
 use mathlib.Core.Path.{_≡_}
-use mathlib.Core.List.{List, [], _∷_, _++_, map, foldl}
+use mathlib.Core.List.{List, [], _++_, map, foldl}
 use lib.ListN.{length, getD, take, drop}
 use Rattle.lists.specs.Keys.{find, meet, Distinct}
 use Rattle.lists.specs.Rows.{rows}

@@ -1,6 +1,6 @@
 // Rows of one width in a flat list. Each row is in the chain that its hash names, and a chain is walked from its last row.
 ghost use mathlib.Core.Path.{_≡_};
-ghost use mathlib.Core.List.{List, [], _∷_, _++_};
+ghost use mathlib.Core.List.{[], _∷_, _++_};
 ghost use Prim.Native.Nat.{_+_, _*_, _≤_, _<_};
 ghost use lib.ListN.{length, take, drop};
 ghost use Rattle.lists.specs.Keys.{eqs, find};

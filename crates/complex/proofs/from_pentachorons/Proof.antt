@@ -1,5 +1,5 @@
 -- `complex::from_pentachorons` meets its contract. Assumes nothing.
-use mathlib.Core.Path.{_≡_, refl, sym, ap, _∙_}
+use mathlib.Core.Path.{refl, sym, ap, _∙_}
 use borrow.Author.Needs.{needs}
 use Rattle.complex.specs.Builder.{lists, roomsOf}
 use Rattle.complex.specs.declared.Built.the-variants.{Done}

@@ -1,8 +1,8 @@
 -- `exports::cjapthumi_from_pentachorons` meets its contract. Assumes nothing.
-use mathlib.Core.Path.{_≡_, refl, sym, ap, _∙_}
+use mathlib.Core.Path.{_∙_}
 use borrow.Author.Needs.{needs}
-use Rattle.complex.specs.Builder.{builtNumber, builtPlace, countsOr}
-use Rattle.exports.specs.Complexes.{countsList, countsOfList}
+use Rattle.complex.specs.Builder.{countsOr}
+use Rattle.exports.specs.Complexes.{countsList}
 use Rattle.exports.proofs.cjapthumi_from_pentachorons.Statement.{statement}
 use Rattle.exports.proofs.cjapthumi_from_pentachorons.Tie as tie
 
@@ -56,12 +56,13 @@ same-length-10 c = search needs
 
 returns : tie.Need-returns
 returns c =
-    let b = (c .before .before .before .before .before .before .before .before .before .before .before .before .before .before .before .before .before .before .before .before .before .before .before .before .before .before .from-pentachorons) .ensures in
+    let b = (c .before .before .before .before .before .before .before .before .before .before .before .before .before .before .before .before .before .before .before .before .before .before .before .before .before .before .from-pentachorons) in
     record {
-      numbered = (c .number) .ensures ∙ ap builtNumber (b .answered);
-      placed = (c .before .place) .ensures ∙ ap builtPlace (b .answered);
-      counted = (c .before .before .counts-list) .ensures ∙ ap countsList ((c .before .before .before .counts-or) .ensures ∙ (λ i. countsOr (b .answered i) ((c .before .before .before .before .counts-of) .ensures i)));
-      left = b .left;
+      answer = b .result;
+      builds = b .ensures;
+      numbered = (c .number) .ensures;
+      placed = (c .before .place) .ensures;
+      counted = (c .before .before .counts-list) .ensures ∙ (λ i. countsList ((c .before .before .before .counts-or) .ensures i)) ∙ (λ i. countsList (countsOr (b .result) ((c .before .before .before .before .counts-of) .ensures i)));
     }
 
 pub cjapthumi-from-pentachorons-spec : {M : Type 1} → statement M

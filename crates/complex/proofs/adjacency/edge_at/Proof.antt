@@ -1,8 +1,7 @@
 -- `complex::adjacency::edge_at` meets its contract. Assumes nothing.
-use Prim.Native.Nat.{ℕ, zero, suc, _+_, _*_, _-_, _/_, _%_, _≤_, _<_}
-use mathlib.Core.Path.{_≡_, refl, sym, ap, _∙_}
+use Prim.Native.Nat.{_-_, _%_}
+use mathlib.Core.Path.{refl}
 use native.Mathlib.Omega.{arith}
-use lib.ListN.{length, getD}
 use borrow.Author.Needs.{needs}
 use Rattle.complex.specs.Parts.{edgeAt}
 use Rattle.complex.proofs.TriangleEdges.{place-below}

@@ -1,10 +1,10 @@
 -- `complex::adjacency::edges_of_triangles` meets its contract. Assumes nothing.
-use Prim.Native.Nat.{ℕ, zero, suc, _+_, _*_, _-_, _/_, _%_, _≤_, _<_}
-use mathlib.Core.Path.{_≡_, refl, sym, ap, _∙_}
+use Prim.Native.Nat.{_-_, _≤_}
+use mathlib.Core.Path.{_≡_, refl}
 use native.Mathlib.Omega.{arith}
-use lib.ListN.{length, getD, length-set}
+use lib.ListN.{length, length-set}
 use borrow.Author.Needs.{needs}
-use Rattle.complex.specs.Parts.{edgeAt, EdgesOf}
+use Rattle.complex.specs.Parts.{EdgesOf}
 use Rattle.complex.proofs.TriangleEdges.{edges-turn}
 use Rattle.complex.proofs.adjacency.edges_of_triangles.Statement.{statement}
 use Rattle.complex.proofs.adjacency.edges_of_triangles.Tie as tie

@@ -1,9 +1,8 @@
 -- `complex::checks::repeats` meets its contract. Assumes nothing.
-use Prim.Native.Nat.{ℕ, zero, suc, _+_, _*_, _-_, _/_, _%_, _≤_, _<_}
-use mathlib.Core.List.{List, [], _∷_, _++_}
+use Prim.Native.Nat.{_+_, _-_, _≤_}
 use mathlib.Core.Path.{_≡_, refl, sym, ap, _∙_}
 use native.Mathlib.Omega.{arith}
-use lib.ListN.{length, drop, take}
+use lib.ListN.{length, drop}
 use borrow.Author.Needs.{needs}
 use Rattle.complex.specs.Builder.{repeats}
 use Rattle.lists.specs.Lists.{among}

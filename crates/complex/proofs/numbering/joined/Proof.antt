@@ -1,5 +1,5 @@
 -- `complex::numbering::joined` meets its contract. Assumes nothing.
-use mathlib.Core.Path.{_≡_, refl, sym, ap, _∙_}
+use mathlib.Core.Path.{refl}
 use borrow.Author.Needs.{needs}
 use Rattle.lists.specs.Lists.{upto}
 use Rattle.complex.proofs.numbering.joined.Statement.{statement}

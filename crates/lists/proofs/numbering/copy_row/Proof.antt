@@ -1,10 +1,9 @@
 -- `lists::numbering::copy_row` meets its contract. Assumes nothing.
-use Prim.Native.Nat.{ℕ, zero, suc, _+_, _*_, _-_, _/_, _%_, _≤_, _<_}
-use mathlib.Core.List.{List, [], _∷_, _++_}
-use mathlib.Core.Path.{_≡_, refl, sym, ap, _∙_}
+use Prim.Native.Nat.{_-_, _≤_}
+use mathlib.Core.Path.{_≡_, refl, _∙_}
 use native.Mathlib.Numerals.{add-one}
 use native.Mathlib.Omega.{arith}
-use lib.ListN.{length, getD, take, drop, set, length-set, length-take, length-drop}
+use lib.ListN.{length, length-set}
 use lib.Seq.{take-length, paste, paste-zero, paste-suc}
 use borrow.Author.Needs.{needs}
 use Rattle.lists.proofs.numbering.copy_row.Statement.{statement}

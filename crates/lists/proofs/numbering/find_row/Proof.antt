@@ -1,12 +1,11 @@
 -- `lists::numbering::find_row` meets its contract. Assumes nothing.
-use Prim.Native.Nat.{ℕ, zero, suc, _+_, _*_, _-_, _/_, _%_, _≤_, _<_}
-use mathlib.Core.List.{List, [], _∷_, _++_}
-use mathlib.Core.Path.{_≡_, refl, sym, ap, _∙_}
+use Prim.Native.Nat.{_*_, _-_, _≤_, _<_}
+use mathlib.Core.List.{[]}
+use mathlib.Core.Path.{_≡_, sym, _∙_}
 use native.Mathlib.Omega.{arith}
-use lib.ListN.{length, getD, take, drop, set, length-set, length-take, length-drop}
+use lib.ListN.{length, getD, take, drop}
 use borrow.Author.Needs.{needs}
-use Rattle.lists.specs.Chains.{hash, chainAt, Indexed}
-use Rattle.lists.specs.Keys.{eqs, find}
+use Rattle.lists.specs.Chains.{hash, chainAt}
 use Rattle.lists.specs.Rows.{rows}
 use Rattle.lists.proofs.Chains.{NotFrom, hash-below, walk-top, walk-next, walk-chain, walk-found, walk-end}
 use Rattle.lists.proofs.Keys.{eqs-says}

@@ -1,14 +1,12 @@
 -- `lists::numbering::meet_row` meets its contract. Assumes nothing.
-use Prim.Native.Nat.{ℕ, zero, suc, _+_, _*_, _-_, _/_, _%_, _≤_, _<_}
-use mathlib.Core.List.{List, [], _∷_, _++_}
-use mathlib.Core.Path.{_≡_, refl, sym, ap, _∙_}
+use Prim.Native.Nat.{ℕ, _+_, _*_, _-_, _≤_}
+use mathlib.Core.Path.{_≡_, refl, ap}
 use native.Mathlib.Nat.{mul-suc}
 use native.Mathlib.Numerals.{add-one}
 use native.Mathlib.Omega.{arith}
-use lib.ListN.{length, getD, take, drop, set, length-set, length-take, length-drop}
+use lib.ListN.{length}
 use borrow.Author.Needs.{needs}
-use Rattle.lists.specs.Chains.{hash, Met}
-use Rattle.lists.specs.Keys.{find}
+use Rattle.lists.specs.Chains.{hash}
 use Rattle.lists.specs.Rows.{rows}
 use Rattle.lists.proofs.Chains.{hash-below, met-old, met-new}
 use Rattle.lists.proofs.Keys.{find-le}

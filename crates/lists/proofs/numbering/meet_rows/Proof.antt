@@ -1,12 +1,12 @@
 -- `lists::numbering::meet_rows` meets its contract. Assumes nothing.
-use Prim.Native.Nat.{ℕ, zero, suc, _+_, _*_, _-_, _/_, _%_, _≤_, _<_}
-use mathlib.Core.List.{List, [], _∷_, _++_}
-use mathlib.Core.Path.{_≡_, refl, sym, ap, _∙_}
+use Prim.Native.Nat.{_+_, _*_, _-_, _≤_}
+use mathlib.Core.List.{[], _∷_}
+use mathlib.Core.Path.{_≡_, refl, _∙_}
 use native.Mathlib.Numerals.{add-one}
 use native.Mathlib.Omega.{arith}
-use lib.ListN.{length, getD, take, drop, set, length-set, length-take, length-drop}
+use lib.ListN.{length, take, drop}
 use borrow.Author.Needs.{needs}
-use Rattle.lists.specs.Chains.{Ready, Met}
+use Rattle.lists.specs.Chains.{Met}
 use Rattle.lists.specs.Rows.{rows}
 use Rattle.lists.proofs.Chains.{met-none, met-trans, ready-next}
 use Rattle.lists.proofs.Rows.{length-rows, rows-snoc, row-below, part-row, length-part}

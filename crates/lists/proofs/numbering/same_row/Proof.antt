@@ -1,11 +1,10 @@
 -- `lists::numbering::same_row` meets its contract. Assumes nothing.
-use Prim.Native.Nat.{ℕ, zero, suc, _+_, _*_, _-_, _/_, _%_, _≤_, _<_}
-use mathlib.Core.List.{List, [], _∷_, _++_}
-use mathlib.Core.Path.{_≡_, refl, sym, ap, _∙_}
+use Prim.Native.Nat.{_+_, _-_, _≤_}
+use mathlib.Core.Path.{_≡_, refl, sym, _∙_}
 use native.Mathlib.Nat.{sub-zero, add-zero}
 use native.Mathlib.Omega.{arith}
 use lib.ListN.{drop-of-length-le}
-use lib.ListN.{length, getD, take, drop, set, length-set, length-take, length-drop}
+use lib.ListN.{length, take, drop}
 use borrow.Author.Needs.{needs}
 use borrow.Author.Tests.{eq-eqb, ne-eqb}
 use Rattle.lists.specs.Keys.{eqs}

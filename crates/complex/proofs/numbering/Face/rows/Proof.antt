@@ -1,5 +1,5 @@
 -- `complex::numbering::Face::rows` meets its contract. Assumes nothing.
-use mathlib.Core.Path.{_≡_, refl, sym, ap, _∙_}
+use mathlib.Core.Path.{refl}
 use borrow.Author.Needs.{needs}
 use Rattle.lists.specs.Lists.{upto, combos}
 use Rattle.lists.specs.Rows.{rows}

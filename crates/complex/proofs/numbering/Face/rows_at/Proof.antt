@@ -1,8 +1,6 @@
 -- `complex::numbering::Face::rows_at` meets its contract. Assumes nothing.
-use Prim.Native.Nat.{ℕ, zero, suc, _+_, _*_, _-_, _/_, _%_, _≤_, _<_}
-use mathlib.Core.Path.{_≡_, refl, sym, ap, _∙_}
+use Prim.Native.Nat.{_-_}
 use borrow.Author.Needs.{needs}
-use Rattle.complex.specs.Complex.{facesOf}
 use Rattle.complex.proofs.Sorted.{take-five}
 use Rattle.complex.proofs.numbering.Face.rows_at.Statement.{statement}
 use Rattle.complex.proofs.numbering.Face.rows_at.Tie as tie
