@@ -3,6 +3,4 @@ mod groups;
 mod numbering;
 
 pub use groups::group;
-pub use numbering::chain_of;
-pub use numbering::find_row;
 pub use numbering::meet_rows;

@@ -8,7 +8,7 @@ ghost use Rattle.lists.specs.Rows.{rows};
 ghost use Rattle.lists.specs.Chains.{hash, Indexed, Ready, Met};
 
 // The chain that a row is in.
-pub fn chain_of(row: &[u32]) -> usize
+fn chain_of(row: &[u32]) -> usize
     ensures { λ r. ⌜ r ≡ hash (now (row .entry)) ⌝ }
 {
     let mut h = 0;
@@ -36,7 +36,7 @@ fn same_row(list: &[u32], at: usize, row: &[u32]) -> bool
 }
 
 // The number of `row`, which is in this chain, among the first n rows of its width; n where it is not there.
-pub fn find_row(
+fn find_row(
     list: &[u32],
     head: &[u32],
     next: &[u32],
