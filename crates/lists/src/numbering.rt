@@ -36,14 +36,7 @@ fn same_row(list: &[u32], at: usize, row: &[u32]) -> bool
 }
 
 // The number of `row`, which is in this chain, among the first n rows of its width; n where it is not there.
-fn find_row(
-    list: &[u32],
-    head: &[u32],
-    next: &[u32],
-    n: usize,
-    row: &[u32],
-    chain: usize,
-) -> usize
+fn find_row(list: &[u32], head: &[u32], next: &[u32], n: usize, row: &[u32], chain: usize) -> usize
     requires { ⌜ (length (now row) * n ≤ length (now list)) × (chain ≡ hash (now row)) × Indexed (rows (length (now row)) n (now list)) (now head) (now next) ⌝ }
     ensures { λ r. ⌜ r ≡ find (now (row .entry)) (rows (length (now (row .entry))) n (now (list .entry))) ⌝ }
 {
