@@ -1,10 +1,10 @@
 -- Laws of what the builder writes: pentachorons are kept and sorted, adjacency lists ascend, and a sorted list is built into the same lists. Assumes nothing.
 -- That no face stands twice and each is found at one index is `faces-distinct` and `faces-found`; that a face's list holds exactly the rows in which it lies is `mem-holding` and `holding-mem` (Incidence).
 use Prim.Native.Nat.{ℕ, _+_, _/_, _%_, _<_}
-use mathlib.Core.Path.{_≡_, refl, sym, ap, _∙_, subst}
+use mathlib.Core.Path.{_≡_, refl, ap, _∙_, subst}
 use mathlib.Core.Bool.{false}
 use mathlib.Core.Logic.{⊎-elim}
-use mathlib.Core.List.{List, [], _∷_, map, append-nil, List·Memᴰ, List·Memᴰ·head, List·Memᴰ·tail, List·Memᴰ·cases-cons, List·Memᴰ·not-nil}
+use mathlib.Core.List.{List, [], _∷_, map, List·Memᴰ, List·Memᴰ·head, List·Memᴰ·tail, List·Memᴰ·cases-cons, List·Memᴰ·not-nil}
 use native.Mathlib.Omega.{arith}
 use lib.Dec.{leb}
 use lib.ListN.{length, getD}
@@ -15,11 +15,11 @@ use Rattle.lists.specs.Rows.{flat, rows}
 use Rattle.lists.specs.Sorting.{sort, Ascending, times}
 use Rattle.lists.proofs.Tests.{fails}
 use Rattle.lists.proofs.Elements.{getD-map, keep-rising, upto-rising, among-says}
-use Rattle.lists.proofs.Rows.{length-rows, rows-flat, length-flat}
+use Rattle.lists.proofs.Rows.{length-rows, length-flat}
 use Rattle.lists.proofs.Sorting.{sort-ascending, sort-times, sort-mem, sort-once, sort-sorted}
 use Rattle.complex.specs.Complex.{holding}
 use Rattle.complex.specs.Builder.{pentachorons, sortedPents, tooLarge, repeats, offence, checkOf, builtOf, Lists, roomsOf, listsAfter}
-use Rattle.complex.proofs.Sorted.{sorted-wide-all, length-sorted-all, sorted-is, sorted-of}
+use Rattle.complex.proofs.Sorted.{sorted-wide-all, length-sorted-all, sorted-is, sorted-of, sorted-back}
 use Rattle.complex.proofs.Offences.{or-false, offence-done, once-of, passed, check-same}
 
 -- ---- the pentachorons
@@ -49,17 +49,12 @@ module _ (given : List ℕ) (whole : length given % 5 ≡ 0) where
   again-long : length (flat (sortedPents given)) ≡ length given
   again-long = length-flat 5 (sortedPents given) (sorted-wide-all given) ∙ omega (arith, length-sorted-all given)
 
-  again-rows : pentachorons (flat (sortedPents given)) ≡ sortedPents given
-  again-rows =
-      let n : length (flat (sortedPents given)) / 5 ≡ length (sortedPents given) = omega (arith, again-long, length-sorted-all given) in
-      rw n (ap (rows 5 (length (sortedPents given))) (sym (append-nil (flat (sortedPents given)))) ∙ rows-flat 5 (sortedPents given) [] (sorted-wide-all given))
-
   ascending : (p : List ℕ) → List·Memᴰ p (sortedPents given) → Ascending p
   ascending p m = let w = sorted-of given p m in subst Ascending (w .2) (sort-ascending (w .0))
 
   -- the sorted pentachorons, sorted again, are the same
   pub sorted-again : sortedPents (flat (sortedPents given)) ≡ sortedPents given
-  sorted-again = sorted-is (flat (sortedPents given)) ∙ ap (map sort) again-rows ∙ all-sorted (sortedPents given) ascending
+  sorted-again = sorted-is (flat (sortedPents given)) ∙ ap (map sort) (sorted-back given) ∙ all-sorted (sortedPents given) ascending
     where
       all-sorted : (ps : List (List ℕ)) → ((p : List ℕ) → List·Memᴰ p ps → Ascending p) → map sort ps ≡ ps
       all-sorted [] h = refl
@@ -104,7 +99,7 @@ module _ (n : ℕ) (given : List ℕ) (l : Lists) (done : checkOf n given (rooms
   again-done : checkOf n (flat (sortedPents given)) (roomsOf l) ≡ Done
   again-done =
       check-same n given (flat (sortedPents given)) (roomsOf l) (again-long given whole-list) done
-      (λ d. ap (offence n 0) (again-rows given whole-list)
+      (λ d. ap (offence n 0) (sorted-back given)
       ∙ no-offence n 0 (sortedPents given)
       (λ p m.
       let w = sorted-of given p m in

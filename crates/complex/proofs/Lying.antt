@@ -15,6 +15,7 @@ use Rattle.complex.specs.declared.numbering.Face.{Face}
 use Rattle.complex.specs.declared.numbering.Face.the-variants.{Edge, Triangle}
 use Rattle.complex.specs.Complex.{countOf, facesOf, metFaces, faces, edges, triangles, triToPents, edgeToTris, edgeToPents}
 use Rattle.complex.specs.Parts.{numbersOf, edgePlaces, edgeAt, Consistent, EdgesOf}
+use Rattle.complex.proofs.Sorted.{five-of}
 use Rattle.complex.proofs.Meetings.{count-faces, length-met}
 use Rattle.complex.proofs.TriangleEdges.{place-below}
 use Rattle.complex.proofs.Incidence.{Sorted, Keyed, rowNumbers, faces-distinct, faces-has, face-rising, edge-of-triangle, groups-holding}
@@ -32,13 +33,7 @@ three-edges (a ∷ b ∷ c ∷ d ∷ t) h = absurd (omega arith)
 -- the table of places is right
 all-edges : (p : List ℕ) → length p ≡ 5 → map (map (λ j. getD (combos p 2) j [])) edgePlaces ≡ map (λ t. combos t 2) (combos p 3)
 unfolding combos
-all-edges (a ∷ b ∷ c ∷ d ∷ e ∷ []) h = refl
-all-edges [] h = absurd (omega arith)
-all-edges (a ∷ []) h = absurd (omega arith)
-all-edges (a ∷ b ∷ []) h = absurd (omega arith)
-all-edges (a ∷ b ∷ c ∷ []) h = absurd (omega arith)
-all-edges (a ∷ b ∷ c ∷ d ∷ []) h = absurd (omega arith)
-all-edges (a ∷ b ∷ c ∷ d ∷ e ∷ f ∷ p) h = absurd (omega arith)
+all-edges p h = rw (five-of p h) refl
 
 three-places : (q : ℕ) → q < 10 → length (getD edgePlaces q []) ≡ 3
 three-places q h =

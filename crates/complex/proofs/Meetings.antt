@@ -15,21 +15,16 @@ use Rattle.lists.proofs.Chains.{indexed-none, met-count, met-rows, met-numbers}
 use Rattle.complex.specs.declared.numbering.Face.{Face}
 use Rattle.complex.specs.declared.numbering.Face.the-variants.{Edge, Triangle, Tet}
 use Rattle.complex.specs.Complex.{widthOf, countOf, facesOf, metFaces, faces}
+use Rattle.complex.proofs.Sorted.{five-of}
 use Rattle.complex.specs.Parts.{Faces, Numbered, numbersOf}
 
 -- ---- how many there are
 
 pub count-faces : (f : Face) (p : List ℕ) → length p ≡ 5 → length (facesOf f p) ≡ countOf f
 unfolding combos
-count-faces Edge (a ∷ b ∷ c ∷ d ∷ e ∷ []) h = refl
-count-faces Triangle (a ∷ b ∷ c ∷ d ∷ e ∷ []) h = refl
-count-faces Tet (a ∷ b ∷ c ∷ d ∷ e ∷ []) h = refl
-count-faces f [] h = absurd (omega arith)
-count-faces f (a ∷ []) h = absurd (omega arith)
-count-faces f (a ∷ b ∷ []) h = absurd (omega arith)
-count-faces f (a ∷ b ∷ c ∷ []) h = absurd (omega arith)
-count-faces f (a ∷ b ∷ c ∷ d ∷ []) h = absurd (omega arith)
-count-faces f (a ∷ b ∷ c ∷ d ∷ e ∷ g ∷ p) h = absurd (omega arith)
+count-faces Edge p h = rw (five-of p h) refl
+count-faces Triangle p h = rw (five-of p h) refl
+count-faces Tet p h = rw (five-of p h) refl
 
 pub length-met : (f : Face) (ps : List (List ℕ)) → Wide 5 ps → length (metFaces f ps) ≡ countOf f * length ps
 unfolding metFaces gather

@@ -1,7 +1,7 @@
 -- The builder as a whole: what its parts leave, joined. Assumes nothing.
 use Prim.Native.Nat.{ℕ, _*_, _/_, _≤_}
 use mathlib.Core.Path.{_≡_, refl, sym, ap, _∙_, subst}
-use mathlib.Core.List.{List, [], append-nil, List·Memᴰ, Memᴰ·of-map}
+use mathlib.Core.List.{List, List·Memᴰ, Memᴰ·of-map}
 use native.Mathlib.Nat.{mul-le-mul-right}
 use native.Mathlib.Omega.{arith}
 use lib.ListN.{length, take, replicate, length-replicate}
@@ -9,7 +9,7 @@ use Rattle.lists.specs.Lists.{Rising}
 use Rattle.lists.specs.Rows.{flat, rows, starts, over}
 use Rattle.lists.specs.Sorting.{sort}
 use Rattle.lists.specs.Groups.{groups}
-use Rattle.lists.proofs.Rows.{length-flat, rows-flat, over-take}
+use Rattle.lists.proofs.Rows.{length-flat, over-take}
 use Rattle.lists.proofs.Sorting.{sort-rising}
 use Rattle.complex.specs.declared.Counts.{Counts}
 use Rattle.complex.specs.declared.numbering.Face.{Face}
@@ -17,7 +17,7 @@ use Rattle.complex.specs.declared.numbering.Face.the-variants.{Edge, Tri
 use Rattle.complex.specs.Complex.{widthOf, countOf, faces, edges, triangles, tets, triToPents, edgeToTris, edgeToPents}
 use Rattle.complex.specs.Builder.{pentachorons, sortedPents, countsOf, Lists, lists, written, overAll}
 use Rattle.complex.specs.Parts.{Faces, Numbered, numbersOf, EdgesOf, Lent, Adjacent, Buildable}
-use Rattle.complex.proofs.Sorted.{sorted-wide-all, length-sorted-all}
+use Rattle.complex.proofs.Sorted.{sorted-wide-all, length-sorted-all, sorted-back}
 use Rattle.complex.proofs.Meetings.{count-le}
 use Rattle.complex.proofs.Incidence.{Sorted}
 use Rattle.complex.proofs.Lying.{length-numbers, numbers-below, face-met, consistent, faces-few, tri-to-pents, edge-to-pents, edge-to-tris-stored}
@@ -49,9 +49,7 @@ module _ (given : List ℕ) (l : Lists) (ok : Buildable given l) where
     part-long = ap length part ∙ length-pents
 
     pub part-rows : rows 5 (length (take (length given) s) / 5) (take (length given) s) ≡ sortedPents given
-    part-rows =
-        let n : length (take (length given) s) / 5 ≡ length (sortedPents given) = omega (arith, part-long, many) in
-        rw (n, part) (ap (rows 5 (length (sortedPents given))) (sym (append-nil (flat (sortedPents given)))) ∙ rows-flat 5 (sortedPents given) [] (sorted-wide-all given))
+    part-rows = ap pentachorons part ∙ sorted-back given
 
     -- there is room for the faces of a kind
     pub faces-room : (f : Face) (list next numbers : ℕ) → widthOf f * (countOf f * (length given / 5)) ≤ list → 81920 ≤ next → 81920 ≤ numbers
