@@ -19,13 +19,13 @@ enum-told c = search needs
 build-requires : tie.Need-build-requires
 unfolding roomsOf
 build-requires c κs =
-    let a = (c .before .before .before .before .before .before .before .before .before .before .before .before .before .before .before .before .before .before .before .before .before .before .before .before .args) in
-    passed (a .n-vertices) (a .given .now) (lists (a .pents .now) (a .edges .now) (a .triangles .now) (a .tets .now) (a .tri-to-pents-items .now) (a .tri-to-pents-starts .now) (a .edge-to-tris-items .now) (a .edge-to-tris-starts .now) (a .edge-to-pents-items .now) (a .edge-to-pents-starts .now)) (sym ((c .before .before .before .before .before .before .before .before .before .before .before .before .check) .ensures) ∙ (c .before .before .before .before .before .before .before .before .before .before .enum-told) .given .1)
+    let a = c .before .before .before .before .before .before .before .before .before .before .before .before .before .before .before .before .before .before .before .before .before .before .before .before .args in
+    passed (a .n-vertices) (a .given .now) (lists (a .pents .now) (a .edges .now) (a .triangles .now) (a .tets .now) (a .tri-to-pents-items .now) (a .tri-to-pents-starts .now) (a .edge-to-tris-items .now) (a .edge-to-tris-starts .now) (a .edge-to-pents-items .now) (a .edge-to-pents-starts .now)) (sym (c .before .before .before .before .before .before .before .before .before .before .before .before .check .ensures) ∙ c .before .before .before .before .before .before .before .before .before .before .enum-told .given .1)
 
 returns : tie.Need-returns
 unfolding roomsOf
 returns c =
-    let e = sym ((c .before .before .before .check) .ensures) ∙ (c .before .refusal) .given .1 in
+    let e = sym (c .before .before .before .check .ensures) ∙ c .before .refusal .given .1 in
     record { answered = rw e refl; left = rw e refl }
 
 same-length : tie.Need-same-length
@@ -61,8 +61,8 @@ same-length-10 c = search needs
 returns-2 : tie.Need-returns-2
 unfolding roomsOf
 returns-2 c =
-    let b = (c .before .before .before .before .before .before .before .before .before .before .before .before .before .before .before .before .before .before .before .before .build) in
-    let e = sym ((c .before .before .before .before .before .before .before .before .before .before .before .before .before .before .before .before .before .before .before .before .before .before .before .before .before .before .before .before .before .before .before .before .before .check) .ensures) ∙ (c .before .before .before .before .before .before .before .before .before .before .before .before .before .before .before .before .before .before .before .before .before .before .before .before .before .before .before .before .before .before .before .enum-told) .given .1 in
+    let b = c .before .before .before .before .before .before .before .before .before .before .before .before .before .before .before .before .before .before .before .before .build in
+    let e = sym (c .before .before .before .before .before .before .before .before .before .before .before .before .before .before .before .before .before .before .before .before .before .before .before .before .before .before .before .before .before .before .before .before .before .check .ensures) ∙ c .before .before .before .before .before .before .before .before .before .before .before .before .before .before .before .before .before .before .before .before .before .before .before .before .before .before .before .before .before .before .before .enum-told .given .1 in
     record { answered = rw e (ap Done (b .ensures .0)); left = rw e (b .ensures .1) }
 
 pub from-pentachorons-spec : {M : Type 1} → statement M

@@ -56,13 +56,13 @@ same-length-10 c = search needs
 
 returns : tie.Need-returns
 returns c =
-    let b = (c .before .before .before .before .before .before .before .before .before .before .before .before .before .before .before .before .before .before .before .before .before .before .before .before .before .before .from-pentachorons) in
+    let b = c .before .before .before .before .before .before .before .before .before .before .before .before .before .before .before .before .before .before .before .before .before .before .before .before .before .before .from-pentachorons in
     record {
       answer = b .result;
       builds = b .ensures;
-      numbered = (c .number) .ensures;
-      placed = (c .before .place) .ensures;
-      counted = (c .before .before .counts-list) .ensures ∙ (λ i. countsList ((c .before .before .before .counts-or) .ensures i)) ∙ (λ i. countsList (countsOr (b .result) ((c .before .before .before .before .counts-of) .ensures i)));
+      numbered = c .number .ensures;
+      placed = c .before .place .ensures;
+      counted = c .before .before .counts-list .ensures ∙ (λ i. countsList (c .before .before .before .counts-or .ensures i)) ∙ (λ i. countsList (countsOr (b .result) (c .before .before .before .before .counts-of .ensures i)));
     }
 
 pub cjapthumi-from-pentachorons-spec : {M : Type 1} → statement M

@@ -22,24 +22,24 @@ slice-reshare-prefix-group c = search needs
 
 slice-aggregate-group : tie.Need-slice-aggregate-group
 slice-aggregate-group c =
-    let a = (c .before .before .before .before .before .before .before .before .before .before .before .before .before .before .before .before .before .before .before .before .before .args) in
-    let p = (c .before .before .before .before .before .before .before .before .before .before .before .before .before .before .before .before .before .before .before .before .before .pre) in
-    let f = (c .before .before .before .before .before .before .before .before .before .before .edges-of-triangles) in
+    let a = c .before .before .before .before .before .before .before .before .before .before .before .before .before .before .before .before .before .before .before .before .before .args in
+    let p = c .before .before .before .before .before .before .before .before .before .before .before .before .before .before .before .before .before .before .before .before .before .pre in
+    let f = c .before .before .before .before .before .before .before .before .before .before .edges-of-triangles in
     sym (length-triangles (a .pent-edges .now) (a .pent-tris .now) (f .last .1 .1 .0) (a .n-edges) (a .n-tris) (length (a .tri-edges .now)) _ p (f .kept .1 .1 .0) (f .ensures))
 
 group-requires-2 : tie.Need-group-requires-2
 group-requires-2 c κs =
-    let a = (c .before .before .before .before .before .before .before .before .before .before .before .before .before .before .before .before .before .before .before .before .before .before .before .args) in
-    let p = (c .before .before .before .before .before .before .before .before .before .before .before .before .before .before .before .before .before .before .before .before .before .before .before .pre) in
-    let f = (c .before .before .before .before .before .before .before .before .before .before .before .before .edges-of-triangles) in
+    let a = c .before .before .before .before .before .before .before .before .before .before .before .before .before .before .before .before .before .before .before .before .before .before .before .args in
+    let p = c .before .before .before .before .before .before .before .before .before .before .before .before .before .before .before .before .before .before .before .before .before .before .before .pre in
+    let f = c .before .before .before .before .before .before .before .before .before .before .before .before .edges-of-triangles in
     can-group-triangles (a .pent-edges .now) (a .pent-tris .now) (f .last .1 .1 .0) (a .n-edges) (a .n-tris) (length (a .tri-edges .now)) _ p (f .kept .1 .1 .0) (f .ensures)
     (length (a .edge-to-tris-items .now)) (length (a .edge-to-tris-starts .now)) (p .room-et) (p .room-et-starts)
 
 group-requires-3 : tie.Need-group-requires-3
 group-requires-3 c κs =
-    let a = (c .before .before .before .before .before .before .before .before .before .before .before .before .before .before .before .before .before .before .before .before .before .before .before .before .before .before .before .before .before .before .args) in
-    let p = (c .before .before .before .before .before .before .before .before .before .before .before .before .before .before .before .before .before .before .before .before .before .before .before .before .before .before .before .before .before .before .pre) in
-    let f = (c .before .before .before .before .before .before .before .before .before .before .before .before .before .before .before .before .before .before .before .edges-of-triangles) in
+    let a = c .before .before .before .before .before .before .before .before .before .before .before .before .before .before .before .before .before .before .before .before .before .before .before .before .before .before .before .before .before .before .args in
+    let p = c .before .before .before .before .before .before .before .before .before .before .before .before .before .before .before .before .before .before .before .before .before .before .before .before .before .before .before .before .before .before .pre in
+    let f = c .before .before .before .before .before .before .before .before .before .before .before .before .before .before .before .before .before .before .before .edges-of-triangles in
     record {
       width = omega arith;
       few = omega (arith, p .few, p .consistent .alike);

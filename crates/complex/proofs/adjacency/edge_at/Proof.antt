@@ -25,19 +25,19 @@ mul-result c = search needs
 
 add-result : tie.Need-add-result
 add-result c =
-    let a = (c .before .args) in
+    let a = c .before .args in
     let b = place-below (a .k % 10) (a .i) in
     omega arith
 
 mul-result-2 : tie.Need-mul-result-2
 mul-result-2 c =
-    let a = (c .before .args) in
+    let a = c .before .args in
     let b = place-below (a .k % 10) (a .i) in
     omega arith
 
 shared-slice-read-result : tie.Need-shared-slice-read-result
 shared-slice-read-result c =
-    let a = (c .before .before .args) in
+    let a = c .before .before .args in
     let b = place-below (a .k % 10) (a .i) in
     omega arith
 

@@ -25,85 +25,85 @@ shared-slice-read-to : tie.Need-shared-slice-read-to Inv-loop μ-loop
 shared-slice-read-to c = search needs
 
 cast-to : tie.Need-cast-to Inv-loop μ-loop
-cast-to c = omega (arith, (c .shared-slice-known3) .given ((c .before .before .loop) .k))
+cast-to c = omega (arith, c .shared-slice-known3 .given (c .before .before .loop .k))
 
 mul-to-2 : tie.Need-mul-to-2 Inv-loop μ-loop
-mul-to-2 c = omega (arith, (c .shared-slice-known3) .given ((c .before .before .loop) .k))
+mul-to-2 c = omega (arith, c .shared-slice-known3 .given (c .before .before .loop .k))
 
 edge-at-requires : tie.Need-edge-at-requires Inv-loop μ-loop
 edge-at-requires c κs =
-    let p = (c .before .before .before .before .before .before .pre) in
-    let l = (c .before .before .loop) in
+    let p = c .before .before .before .before .before .before .pre in
+    let l = c .before .before .loop in
     let r = p .places (l .k) (omega arith) in
     (omega (arith, p .whole, p .alike), omega (arith, p .alike), omega arith)
 
 mul-tri-edges : tie.Need-mul-tri-edges Inv-loop μ-loop
 mul-tri-edges c =
-    let p = (c .before .before .before .before .before .before .before .pre) in
-    let l = (c .before .before .before .loop) in
+    let p = c .before .before .before .before .before .before .before .pre in
+    let l = c .before .before .before .loop in
     let r = p .places (l .k) (omega arith) in
     omega arith
 
 slice-write-tri-edges : tie.Need-slice-write-tri-edges Inv-loop μ-loop
 slice-write-tri-edges c =
-    let p = (c .before .before .before .before .before .before .before .pre) in
-    let l = (c .before .before .before .loop) in
+    let p = c .before .before .before .before .before .before .before .pre in
+    let l = c .before .before .before .loop in
     let r = p .places (l .k) (omega arith) in
     omega arith
 
 edge-at-requires-2 : tie.Need-edge-at-requires-2 Inv-loop μ-loop
 edge-at-requires-2 c κs =
-    let p = (c .before .before .before .before .before .before .before .pre) in
-    let l = (c .before .before .before .loop) in
+    let p = c .before .before .before .before .before .before .before .pre in
+    let l = c .before .before .before .loop in
     let r = p .places (l .k) (omega arith) in
     (omega (arith, p .whole, p .alike), omega (arith, p .alike), omega arith)
 
 add-tri-edges : tie.Need-add-tri-edges Inv-loop μ-loop
 add-tri-edges c =
-    let p = (c .before .before .before .before .before .before .before .before .pre) in
-    let l = (c .before .before .before .before .loop) in
+    let p = c .before .before .before .before .before .before .before .before .pre in
+    let l = c .before .before .before .before .loop in
     let r = p .places (l .k) (omega arith) in
     omega arith
 
 mul-tri-edges-2 : tie.Need-mul-tri-edges-2 Inv-loop μ-loop
 mul-tri-edges-2 c =
-    let p = (c .before .before .before .before .before .before .before .before .pre) in
-    let l = (c .before .before .before .before .loop) in
+    let p = c .before .before .before .before .before .before .before .before .pre in
+    let l = c .before .before .before .before .loop in
     let r = p .places (l .k) (omega arith) in
     omega arith
 
 slice-write-tri-edges-2 : tie.Need-slice-write-tri-edges-2 Inv-loop μ-loop
 slice-write-tri-edges-2 c =
-    let p = (c .before .before .before .before .before .before .before .before .pre) in
-    let l = (c .before .before .before .before .loop) in
+    let p = c .before .before .before .before .before .before .before .before .pre in
+    let l = c .before .before .before .before .loop in
     let r = p .places (l .k) (omega arith) in
     simp length-set (omega arith)
 
 edge-at-requires-3 : tie.Need-edge-at-requires-3 Inv-loop μ-loop
 edge-at-requires-3 c κs =
-    let p = (c .before .before .before .before .before .before .before .before .pre) in
-    let l = (c .before .before .before .before .loop) in
+    let p = c .before .before .before .before .before .before .before .before .pre in
+    let l = c .before .before .before .before .loop in
     let r = p .places (l .k) (omega arith) in
     (omega (arith, p .whole, p .alike), omega (arith, p .alike), omega arith)
 
 add-tri-edges-2 : tie.Need-add-tri-edges-2 Inv-loop μ-loop
 add-tri-edges-2 c =
-    let p = (c .before .before .before .before .before .before .before .before .before .pre) in
-    let l = (c .before .before .before .before .before .loop) in
+    let p = c .before .before .before .before .before .before .before .before .before .pre in
+    let l = c .before .before .before .before .before .loop in
     let r = p .places (l .k) (omega arith) in
     omega arith
 
 mul-tri-edges-3 : tie.Need-mul-tri-edges-3 Inv-loop μ-loop
 mul-tri-edges-3 c =
-    let p = (c .before .before .before .before .before .before .before .before .before .pre) in
-    let l = (c .before .before .before .before .before .loop) in
+    let p = c .before .before .before .before .before .before .before .before .before .pre in
+    let l = c .before .before .before .before .before .loop in
     let r = p .places (l .k) (omega arith) in
     omega arith
 
 slice-write-tri-edges-3 : tie.Need-slice-write-tri-edges-3 Inv-loop μ-loop
 slice-write-tri-edges-3 c =
-    let p = (c .before .before .before .before .before .before .before .before .before .pre) in
-    let l = (c .before .before .before .before .before .loop) in
+    let p = c .before .before .before .before .before .before .before .before .before .pre in
+    let l = c .before .before .before .before .before .loop in
     let r = p .places (l .k) (omega arith) in
     simp length-set (omega arith)
 
@@ -115,23 +115,23 @@ loop-less c = search needs
 
 loop-again : tie.Need-loop-again Inv-loop μ-loop
 loop-again c =
-    let p = (c .before .before .before .before .before .before .before .before .before .pre) in
-    let l = (c .before .before .before .before .before .loop) in
+    let p = c .before .before .before .before .before .before .before .before .before .pre in
+    let l = c .before .before .before .before .before .loop in
     let r = p .places (l .k) (omega arith) in
-    let a = (c .before .before .before .before .before .before .before .before .before .args) in (
+    let a = c .before .before .before .before .before .before .before .before .before .args in (
       omega arith,
       simp length-set (l .inv .1),
-      rw ((c .before .before .edge-at) .ensures, (c .before .edge-at2) .ensures, (c .edge-at3) .ensures)
+      rw (c .before .before .edge-at .ensures, c .before .edge-at2 .ensures, c .edge-at3 .ensures)
           (edges-turn (a .pent-edges .now) (a .pent-tris .now) (l .tri-edges) (l .k) (length (a .tri-edges .now)) p (omega arith) (l .inv .1) (l .inv .2)),
     )
 
 same-length : tie.Need-same-length Inv-loop μ-loop
-same-length c = (c .before .loop) .inv .1
+same-length c = c .before .loop .inv .1
 
 returns : tie.Need-returns Inv-loop μ-loop
 returns c =
-    let l = (c .before .loop) in
-    let e : l .k ≡ length ((c .before .before .before .before .before .args) .pent-tris .now) = omega arith in
+    let l = c .before .loop in
+    let e : l .k ≡ length (c .before .before .before .before .before .args .pent-tris .now) = omega arith in
     rw e at (l .inv .2)
 
 pub edges-of-triangles-spec : {M : Type 1} → statement M

@@ -28,7 +28,7 @@ shared-slice-read-if1 c = search needs
 
 returns : tie.Need-returns Inv-loop μ-loop
 unfolding among
-returns c = let a = (c .before .before .before .before .args) in let l = (c .before .before .before .loop) in sym (some-here (among (a .v)) (λ x l. eqb (a .v) x) (λ x l. refl) (a .pent .now) (l .i) (omega arith) (eq-eqb _ _ ((c .if1) .taken)) (l .inv .1))
+returns c = let a = c .before .before .before .before .args in let l = c .before .before .before .loop in sym (some-here (among (a .v)) (λ x l. eqb (a .v) x) (λ x l. refl) (a .pent .now) (l .i) (omega arith) (eq-eqb _ _ (c .if1 .taken)) (l .inv .1))
 
 add-i : tie.Need-add-i Inv-loop μ-loop
 add-i c = search needs
@@ -38,11 +38,11 @@ loop-less c = search needs
 
 loop-again : tie.Need-loop-again Inv-loop μ-loop
 unfolding among
-loop-again c = let a = (c .before .before .before .before .args) in let l = (c .before .before .before .loop) in (omega arith, some-next (among (a .v)) (λ x l. eqb (a .v) x) (λ x l. refl) (a .pent .now) (l .i) (omega arith) (ne-eqb _ _ ((c .if1) .left)) (l .inv .1))
+loop-again c = let a = c .before .before .before .before .args in let l = c .before .before .before .loop in (omega arith, some-next (among (a .v)) (λ x l. eqb (a .v) x) (λ x l. refl) (a .pent .now) (l .i) (omega arith) (ne-eqb _ _ (c .if1 .left)) (l .inv .1))
 
 returns-2 : tie.Need-returns-2 Inv-loop μ-loop
 unfolding among
-returns-2 c = let a = (c .before .before .args) in let l = (c .before .loop) in sym (some-none (among (a .v)) (λ x l. eqb (a .v) x) (λ x l. refl) (a .pent .now) (l .i) (omega arith) refl (l .inv .1))
+returns-2 c = let a = c .before .before .args in let l = c .before .loop in sym (some-none (among (a .v)) (λ x l. eqb (a .v) x) (λ x l. refl) (a .pent .now) (l .i) (omega arith) refl (l .inv .1))
 
 pub has-spec : {M : Type 1} → statement M
 has-spec =

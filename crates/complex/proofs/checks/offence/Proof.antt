@@ -19,7 +19,7 @@ abbrev μ-loop : tie.MeasureT-loop
 μ-loop n given count k₀ k = length given / 5 - k
 
 loop-holds : tie.Need-loop-holds Inv-loop μ-loop
-loop-holds c = (omega arith, rw (sub-zero (length ((c .before .args) .given .now) / 5)) refl)
+loop-holds c = (omega arith, rw (sub-zero (length (c .before .args .given .now) / 5)) refl)
 
 mul-from : tie.Need-mul-from Inv-loop μ-loop
 mul-from c = search needs
@@ -44,11 +44,11 @@ too-large-requires c κs = search needs
 
 returns : tie.Need-returns Inv-loop μ-loop
 returns c =
-    let a = (c .before .before .before .before .before .before .args) in
-    let l = (c .before .before .before .before .loop) in
+    let a = c .before .before .before .before .before .before .args in
+    let l = c .before .before .before .before .loop in
     let turn = offence-turn (a .n) (l .k) (length (a .given .now) / 5) (a .given .now) (omega arith) in
     let part = part-row 5 (l .k) (a .given .now) in
-    sym (l .inv .1 ∙ turn ∙ rw (← part, sym ((c .before .too-large) .ensures) ∙ (c .if1) .taken) refl)
+    sym (l .inv .1 ∙ turn ∙ rw (← part, sym (c .before .too-large .ensures) ∙ c .if1 .taken) refl)
 
 mul-repeats : tie.Need-mul-repeats Inv-loop μ-loop
 mul-repeats c = search needs
@@ -67,11 +67,11 @@ repeats-requires c κs = search needs
 
 returns-2 : tie.Need-returns-2 Inv-loop μ-loop
 returns-2 c =
-    let a = (c .before .before .before .before .before .before .before .before .before .args) in
-    let l = (c .before .before .before .before .before .before .before .loop) in
+    let a = c .before .before .before .before .before .before .before .before .before .args in
+    let l = c .before .before .before .before .before .before .before .loop in
     let turn = offence-turn (a .n) (l .k) (length (a .given .now) / 5) (a .given .now) (omega arith) in
     let part = part-row 5 (l .k) (a .given .now) in
-    sym (l .inv .1 ∙ turn ∙ rw (← part, sym ((c .before .before .before .before .too-large) .ensures) ∙ (c .before .before .before .if1) .left, sym ((c .before .repeats) .ensures) ∙ (c .if2) .taken) refl)
+    sym (l .inv .1 ∙ turn ∙ rw (← part, sym (c .before .before .before .before .too-large .ensures) ∙ c .before .before .before .if1 .left, sym (c .before .repeats .ensures) ∙ c .if2 .taken) refl)
 
 add-k : tie.Need-add-k Inv-loop μ-loop
 add-k c = search needs
@@ -81,17 +81,17 @@ loop-less c = search needs
 
 loop-again : tie.Need-loop-again Inv-loop μ-loop
 loop-again c =
-    let a = (c .before .before .before .before .before .before .before .before .before .args) in
-    let l = (c .before .before .before .before .before .before .before .loop) in
+    let a = c .before .before .before .before .before .before .before .before .before .args in
+    let l = c .before .before .before .before .before .before .before .loop in
     let turn = offence-turn (a .n) (l .k) (length (a .given .now) / 5) (a .given .now) (omega arith) in
     let part = part-row 5 (l .k) (a .given .now) in
-    (omega arith, l .inv .1 ∙ turn ∙ rw (← part, sym ((c .before .before .before .before .too-large) .ensures) ∙ (c .before .before .before .if1) .left, sym ((c .before .repeats) .ensures) ∙ (c .if2) .left) refl)
+    (omega arith, l .inv .1 ∙ turn ∙ rw (← part, sym (c .before .before .before .before .too-large .ensures) ∙ c .before .before .before .if1 .left, sym (c .before .repeats .ensures) ∙ c .if2 .left) refl)
 
 returns-3 : tie.Need-returns-3 Inv-loop μ-loop
 unfolding offence rows
 returns-3 c =
-    let l = (c .before .loop) in
-    let e : length ((c .before .before .before .args) .given .now) / 5 - l .k ≡ 0 = omega arith in
+    let l = c .before .loop in
+    let e : length (c .before .before .before .args .given .now) / 5 - l .k ≡ 0 = omega arith in
     sym (l .inv .1 ∙ rw e refl)
 
 pub offence-spec : {M : Type 1} → statement M

@@ -46,18 +46,18 @@ has-requires c κs = search needs
 
 returns : tie.Need-returns Inv-loop μ-loop
 unfolding repeats
-returns c = let a = (c .before .before .before .before .before .before .before .args) in let l = (c .before .before .before .before .before .loop) in sym (some-here repeats (λ x l. among x l) (λ x l. refl) (a .pent .now) (l .i) (omega arith) (sym ((c .before .has) .ensures ∙ ap (among _) (part-tail (a .pent .now) (l .i + 1))) ∙ (c .if1) .taken) (l .inv .1))
+returns c = let a = c .before .before .before .before .before .before .before .args in let l = c .before .before .before .before .before .loop in sym (some-here repeats (λ x l. among x l) (λ x l. refl) (a .pent .now) (l .i) (omega arith) (sym (c .before .has .ensures ∙ ap (among _) (part-tail (a .pent .now) (l .i + 1))) ∙ c .if1 .taken) (l .inv .1))
 
 loop-less : tie.Need-loop-less Inv-loop μ-loop
 loop-less c = search needs
 
 loop-again : tie.Need-loop-again Inv-loop μ-loop
 unfolding repeats
-loop-again c = let a = (c .before .before .before .before .before .before .before .args) in let l = (c .before .before .before .before .before .loop) in (omega arith, some-next repeats (λ x l. among x l) (λ x l. refl) (a .pent .now) (l .i) (omega arith) (sym ((c .before .has) .ensures ∙ ap (among _) (part-tail (a .pent .now) (l .i + 1))) ∙ (c .if1) .left) (l .inv .1))
+loop-again c = let a = c .before .before .before .before .before .before .before .args in let l = c .before .before .before .before .before .loop in (omega arith, some-next repeats (λ x l. among x l) (λ x l. refl) (a .pent .now) (l .i) (omega arith) (sym (c .before .has .ensures ∙ ap (among _) (part-tail (a .pent .now) (l .i + 1))) ∙ c .if1 .left) (l .inv .1))
 
 returns-2 : tie.Need-returns-2 Inv-loop μ-loop
 unfolding repeats
-returns-2 c = let a = (c .before .before .before .args) in let l = (c .before .loop) in sym (some-none repeats (λ x l. among x l) (λ x l. refl) (a .pent .now) (l .i) (omega arith) refl (l .inv .1))
+returns-2 c = let a = c .before .before .before .args in let l = c .before .loop in sym (some-none repeats (λ x l. among x l) (λ x l. refl) (a .pent .now) (l .i) (omega arith) refl (l .inv .1))
 
 pub repeats-spec : {M : Type 1} → statement M
 repeats-spec =

@@ -27,11 +27,11 @@ shared-slice-read-if1 : tie.Need-shared-slice-read-if1 Inv-loop μ-loop
 shared-slice-read-if1 c = search needs
 
 cast-if1 : tie.Need-cast-if1 Inv-loop μ-loop
-cast-if1 c = omega (arith, (c .shared-slice-known) .given ((c .before .before .loop) .i))
+cast-if1 c = omega (arith, c .shared-slice-known .given (c .before .before .loop .i))
 
 returns : tie.Need-returns Inv-loop μ-loop
 unfolding tooLarge
-returns c = let a = (c .before .before .before .before .args) in let l = (c .before .before .before .loop) in sym (some-here (tooLarge (a .n)) (λ x l. leb (a .n) x) (λ x l. refl) (a .pent .now) (l .i) (omega arith) (le-leb _ _ ((c .if1) .taken)) (l .inv .1))
+returns c = let a = c .before .before .before .before .args in let l = c .before .before .before .loop in sym (some-here (tooLarge (a .n)) (λ x l. leb (a .n) x) (λ x l. refl) (a .pent .now) (l .i) (omega arith) (le-leb _ _ (c .if1 .taken)) (l .inv .1))
 
 add-i : tie.Need-add-i Inv-loop μ-loop
 add-i c = search needs
@@ -41,11 +41,11 @@ loop-less c = search needs
 
 loop-again : tie.Need-loop-again Inv-loop μ-loop
 unfolding tooLarge
-loop-again c = let a = (c .before .before .before .before .args) in let l = (c .before .before .before .loop) in (omega arith, some-next (tooLarge (a .n)) (λ x l. leb (a .n) x) (λ x l. refl) (a .pent .now) (l .i) (omega arith) (lt-leb _ _ ((c .if1) .left)) (l .inv .1))
+loop-again c = let a = c .before .before .before .before .args in let l = c .before .before .before .loop in (omega arith, some-next (tooLarge (a .n)) (λ x l. leb (a .n) x) (λ x l. refl) (a .pent .now) (l .i) (omega arith) (lt-leb _ _ (c .if1 .left)) (l .inv .1))
 
 returns-2 : tie.Need-returns-2 Inv-loop μ-loop
 unfolding tooLarge
-returns-2 c = let a = (c .before .before .args) in let l = (c .before .loop) in sym (some-none (tooLarge (a .n)) (λ x l. leb (a .n) x) (λ x l. refl) (a .pent .now) (l .i) (omega arith) refl (l .inv .1))
+returns-2 c = let a = c .before .before .args in let l = c .before .loop in sym (some-none (tooLarge (a .n)) (λ x l. leb (a .n) x) (λ x l. refl) (a .pent .now) (l .i) (omega arith) refl (l .inv .1))
 
 pub too-large-spec : {M : Type 1} → statement M
 too-large-spec =

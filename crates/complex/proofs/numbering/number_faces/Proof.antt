@@ -29,70 +29,42 @@ count-requires c κs = search needs
 loop-holds : tie.Need-loop-holds Inv-loop μ-loop
 unfolding rows metFaces gather
 loop-holds c =
-    let a = (c .before .before .before .before .before .before .args) in
-    let p = (c .before .before .before .before .before .before .pre) in
+    let a = c .before .before .before .before .before .before .args in
+    let p = c .before .before .before .before .before .before .pre in
     let f = a .face in
     let P = length (a .pents .now) / 5 in
-    let width : (c .before .width) .result ≡ widthOf f = (c .before .width) .ensures in
-    let count : (c .count) .result ≡ countOf f = (c .count) .ensures in
+    let width : c .before .width .result ≡ widthOf f = c .before .width .ensures in
+    let count : c .count .result ≡ countOf f = c .count .ensures in
     let ready = ready-none f P (length (a .pents .now)) (a .list .now) _ (a .next .now) (a .numbers .now) 32768 refl refl p in
     (omega arith, refl, refl, refl, ready, met-none (widthOf f) (a .list .now) _ (a .next .now) (a .numbers .now) 0 0 (ready .indexed))
 
 mul-rows-at : tie.Need-mul-rows-at Inv-loop μ-loop
-mul-rows-at c =
-    let a = (c .before .before .before .before .before .before .before .before .args) in
-    let p = (c .before .before .before .before .before .before .before .before .pre) in
-    let f = a .face in
-    let P = length (a .pents .now) / 5 in
-    let width : (c .before .before .before .width) .result ≡ widthOf f = (c .before .before .before .width) .ensures in
-    let count : (c .before .before .count) .result ≡ countOf f = (c .before .before .count) .ensures in
-    omega (arith, p .five, p .few)
+mul-rows-at c = omega (arith, c .before .before .before .before .before .before .before .before .pre .five, c .before .before .before .before .before .before .before .before .pre .few)
 
 rows-at-requires : tie.Need-rows-at-requires Inv-loop μ-loop
-rows-at-requires c κs =
-    let a = (c .before .before .before .before .before .before .before .before .args) in
-    let p = (c .before .before .before .before .before .before .before .before .pre) in
-    let f = a .face in
-    let P = length (a .pents .now) / 5 in
-    let width : (c .before .before .before .width) .result ≡ widthOf f = (c .before .before .before .width) .ensures in
-    let count : (c .before .before .count) .result ≡ countOf f = (c .before .before .count) .ensures in
-    let l = (c .before .loop) in
-    let met = l .inv .5 in
-    let five : 5 * l .k + 5 ≤ length (a .pents .now) = omega arith in
-    let many = length-met-rows f (l .k) (a .pents .now) (omega arith) in
-    let below = face-below f (l .k) P (omega arith) in
-    five
+rows-at-requires c κs = omega arith
 
 slice-aggregate-meet-rows : tie.Need-slice-aggregate-meet-rows Inv-loop μ-loop
-slice-aggregate-meet-rows c = sym ((c .before .before .before .before .loop) .inv .5 .indexed .chains)
+slice-aggregate-meet-rows c = sym (c .before .before .before .before .loop .inv .5 .indexed .chains)
 
 slice-aggregate-meet-rows-2 : tie.Need-slice-aggregate-meet-rows-2 Inv-loop μ-loop
 slice-aggregate-meet-rows-2 c = search needs
 
 mul-meet-rows : tie.Need-mul-meet-rows Inv-loop μ-loop
 mul-meet-rows c =
-    let a = (c .before .before .before .before .before .before .before .before .before .before .before .before .before .before .args) in
-    let p = (c .before .before .before .before .before .before .before .before .before .before .before .before .before .before .pre) in
-    let f = a .face in
-    let P = length (a .pents .now) / 5 in
-    let width : (c .before .before .before .before .before .before .before .before .before .width) .result ≡ widthOf f = (c .before .before .before .before .before .before .before .before .before .width) .ensures in
-    let count : (c .before .before .before .before .before .before .before .before .count) .result ≡ countOf f = (c .before .before .before .before .before .before .before .before .count) .ensures in
-    let l = (c .before .before .before .before .before .before .before .loop) in
-    let met = l .inv .5 in
-    let five : 5 * l .k + 5 ≤ length (a .pents .now) = omega arith in
-    let many = length-met-rows f (l .k) (a .pents .now) (omega arith) in
-    let below = face-below f (l .k) P (omega arith) in
-    rw count (omega (arith, p .few, mul-le-mul-left (countOf f) (p .few)))
+    let f = c .before .before .before .before .before .before .before .before .before .before .before .before .before .before .args .face in
+    let below = face-below f (c .before .before .before .before .before .before .before .loop .k) (length (c .before .before .before .before .before .before .before .before .before .before .before .before .before .before .args .pents .now) / 5) (omega arith) in
+    rw (c .before .before .before .before .before .before .before .before .count .ensures) (omega (arith, c .before .before .before .before .before .before .before .before .before .before .before .before .before .before .pre .links))
 
 meet-rows-requires : tie.Need-meet-rows-requires Inv-loop μ-loop
 meet-rows-requires c κs =
-    let a = (c .before .before .before .before .before .before .before .before .before .before .before .before .before .before .args) in
-    let p = (c .before .before .before .before .before .before .before .before .before .before .before .before .before .before .pre) in
+    let a = c .before .before .before .before .before .before .before .before .before .before .before .before .before .before .args in
+    let p = c .before .before .before .before .before .before .before .before .before .before .before .before .before .before .pre in
     let f = a .face in
     let P = length (a .pents .now) / 5 in
-    let width : (c .before .before .before .before .before .before .before .before .before .width) .result ≡ widthOf f = (c .before .before .before .before .before .before .before .before .before .width) .ensures in
-    let count : (c .before .before .before .before .before .before .before .before .count) .result ≡ countOf f = (c .before .before .before .before .before .before .before .before .count) .ensures in
-    let l = (c .before .before .before .before .before .before .before .loop) in
+    let width : c .before .before .before .before .before .before .before .before .before .width .result ≡ widthOf f = c .before .before .before .before .before .before .before .before .before .width .ensures in
+    let count : c .before .before .before .before .before .before .before .before .count .result ≡ countOf f = c .before .before .before .before .before .before .before .before .count .ensures in
+    let l = c .before .before .before .before .before .before .before .loop in
     let met = l .inv .5 in
     let five : 5 * l .k + 5 ≤ length (a .pents .now) = omega arith in
     let many = length-met-rows f (l .k) (a .pents .now) (omega arith) in
@@ -111,19 +83,19 @@ loop-less c = search needs
 
 loop-again : tie.Need-loop-again Inv-loop μ-loop
 loop-again c =
-    let a = (c .before .before .before .before .before .before .before .before .before .before .before .before .before .before .before .before .before .before .before .before .before .before .args) in
-    let p = (c .before .before .before .before .before .before .before .before .before .before .before .before .before .before .before .before .before .before .before .before .before .before .pre) in
+    let a = c .before .before .before .before .before .before .before .before .before .before .before .before .before .before .before .before .before .before .before .before .before .before .args in
+    let p = c .before .before .before .before .before .before .before .before .before .before .before .before .before .before .before .before .before .before .before .before .before .before .pre in
     let f = a .face in
     let P = length (a .pents .now) / 5 in
-    let width : (c .before .before .before .before .before .before .before .before .before .before .before .before .before .before .before .before .before .width) .result ≡ widthOf f = (c .before .before .before .before .before .before .before .before .before .before .before .before .before .before .before .before .before .width) .ensures in
-    let count : (c .before .before .before .before .before .before .before .before .before .before .before .before .before .before .before .before .count) .result ≡ countOf f = (c .before .before .before .before .before .before .before .before .before .before .before .before .before .before .before .before .count) .ensures in
-    let l = (c .before .before .before .before .before .before .before .before .before .before .before .before .before .before .before .loop) in
+    let width : c .before .before .before .before .before .before .before .before .before .before .before .before .before .before .before .before .before .width .result ≡ widthOf f = c .before .before .before .before .before .before .before .before .before .before .before .before .before .before .before .before .before .width .ensures in
+    let count : c .before .before .before .before .before .before .before .before .before .before .before .before .before .before .before .before .count .result ≡ countOf f = c .before .before .before .before .before .before .before .before .before .before .before .before .before .before .before .before .count .ensures in
+    let l = c .before .before .before .before .before .before .before .before .before .before .before .before .before .before .before .loop in
     let met = l .inv .5 in
     let five : 5 * l .k + 5 ≤ length (a .pents .now) = omega arith in
     let many = length-met-rows f (l .k) (a .pents .now) (omega arith) in
     let below = face-below f (l .k) P (omega arith) in
-    let g = (c .before .before .before .before .before .before .before .meet-rows) in
-    let all = rw ((c .before .before .before .before .before .before .before .before .before .before .before .before .before .rows-at) .ensures) at (rw count at (rw width at (g .ensures))) in (
+    let g = c .before .before .before .before .before .before .before .meet-rows in
+    let all = rw (c .before .before .before .before .before .before .before .before .before .before .before .before .before .rows-at .ensures) at (rw count at (rw width at (g .ensures))) in (
       omega arith,
       g .kept .0 ∙ l .inv .1,
       g .kept .1 .1 .0 ∙ l .inv .2,
@@ -135,23 +107,23 @@ loop-again c =
     )
 
 same-length : tie.Need-same-length Inv-loop μ-loop
-same-length c = (c .before .loop) .inv .1
+same-length c = c .before .loop .inv .1
 
 same-length-2 : tie.Need-same-length-2 Inv-loop μ-loop
-same-length-2 c = (c .before .loop) .inv .2
+same-length-2 c = c .before .loop .inv .2
 
 same-length-3 : tie.Need-same-length-3 Inv-loop μ-loop
-same-length-3 c = (c .before .loop) .inv .3
+same-length-3 c = c .before .loop .inv .3
 
 returns : tie.Need-returns Inv-loop μ-loop
 returns c =
-    let a = (c .before .before .before .before .before .before .before .before .args) in
-    let p = (c .before .before .before .before .before .before .before .before .pre) in
+    let a = c .before .before .before .before .before .before .before .before .args in
+    let p = c .before .before .before .before .before .before .before .before .pre in
     let f = a .face in
     let P = length (a .pents .now) / 5 in
-    let width : (c .before .before .before .width) .result ≡ widthOf f = (c .before .before .before .width) .ensures in
-    let count : (c .before .before .count) .result ≡ countOf f = (c .before .before .count) .ensures in
-    let l = (c .before .loop) in
+    let width : c .before .before .before .width .result ≡ widthOf f = c .before .before .before .width .ensures in
+    let count : c .before .before .count .result ≡ countOf f = c .before .before .count .ensures in
+    let l = c .before .loop in
     let e : l .k ≡ P = omega arith in
     let met = rw e at (l .inv .5) in
     let many = length-met-rows f P (a .pents .now) (omega arith) in

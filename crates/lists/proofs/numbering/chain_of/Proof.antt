@@ -29,10 +29,10 @@ shared-slice-read-h : tie.Need-shared-slice-read-h Inv-loop μ-loop
 shared-slice-read-h c = search needs
 
 cast-h : tie.Need-cast-h Inv-loop μ-loop
-cast-h c = omega (arith, (c .shared-slice-known) .given ((c .before .before .loop) .i))
+cast-h c = omega (arith, c .shared-slice-known .given (c .before .before .loop .i))
 
 add-h : tie.Need-add-h Inv-loop μ-loop
-add-h c = omega (arith, (c .shared-slice-known) .given ((c .before .before .loop) .i))
+add-h c = omega (arith, c .shared-slice-known .given (c .before .before .loop .i))
 
 add-i : tie.Need-add-i Inv-loop μ-loop
 add-i c = search needs
@@ -42,12 +42,12 @@ loop-less c = search needs
 
 loop-again : tie.Need-loop-again Inv-loop μ-loop
 loop-again c =
-    let l = (c .before .before .loop) in
-    let s = (c .before .before .before .args) .row .now in
+    let l = c .before .before .loop in
+    let s = c .before .before .before .args .row .now in
     (omega arith, omega arith, ap (λ (h : ℕ). mix h (getD s (l .i) 0)) (l .inv .2) ∙ hash-snoc s (l .i) (omega arith))
 
 returns : tie.Need-returns Inv-loop μ-loop
-returns c = let l = (c .before .loop) in l .inv .2 ∙ hash-take ((c .before .before .args) .row .now) (l .i) (omega arith)
+returns c = let l = c .before .loop in l .inv .2 ∙ hash-take (c .before .before .args .row .now) (l .i) (omega arith)
 
 pub chain-of-spec : {M : Type 1} → statement M
 chain-of-spec =

@@ -16,7 +16,7 @@ abbrev μ-loop : tie.MeasureT-loop
 μ-loop list₀ at row i₀ list i = length row - i
 
 loop-holds : tie.Need-loop-holds Inv-loop μ-loop
-loop-holds c = let a = (c .args) in (omega arith, refl, paste-zero (a .list .now) (a .at) (a .row .now))
+loop-holds c = let a = c .args in (omega arith, refl, paste-zero (a .list .now) (a .at) (a .row .now))
 
 mul-list : tie.Need-mul-list Inv-loop μ-loop
 mul-list c = search needs
@@ -41,8 +41,8 @@ loop-less c = search needs
 
 loop-again : tie.Need-loop-again Inv-loop μ-loop
 loop-again c =
-    let a = (c .before .before .before .args) in
-    let l = (c .before .before .loop) in
+    let a = c .before .before .before .args in
+    let l = c .before .before .loop in
     (omega arith, simp length-set (l .inv .1), rw (add-one (l .i), l .inv .2) (paste-suc (a .list .now) (a .at) (a .row .now) (l .i) 0 (omega arith) (omega arith)))
 
 same-length : tie.Need-same-length Inv-loop μ-loop
@@ -50,8 +50,8 @@ same-length c = search needs
 
 returns : tie.Need-returns Inv-loop μ-loop
 returns c =
-    let a = (c .before .before .args) in
-    let l = (c .before .loop) in
+    let a = c .before .before .args in
+    let l = c .before .loop in
     let e : l .i ≡ length (a .row .now) = omega arith in
     l .inv .2 ∙ rw (e, take-length) refl
 

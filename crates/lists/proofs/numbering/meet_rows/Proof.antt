@@ -21,69 +21,69 @@ abbrev μ-loop : tie.MeasureT-loop
 
 loop-holds : tie.Need-loop-holds Inv-loop μ-loop
 unfolding rows
-loop-holds c = let a = (c .before .before .before .before .before .args) in (omega arith, refl, refl, refl, refl, met-none (a .w) (a .list .now) (a .head .now) (a .next .now) (a .numbers .now) (a .n) (a .at) ((c .before .before .before .before .before .pre) .1 .indexed))
+loop-holds c = let a = c .before .before .before .before .before .args in (omega arith, refl, refl, refl, refl, met-none (a .w) (a .list .now) (a .head .now) (a .next .now) (a .numbers .now) (a .n) (a .at) (c .before .before .before .before .before .pre .1 .indexed))
 
 mul-from : tie.Need-mul-from Inv-loop μ-loop
 mul-from c =
-    let a = (c .before .before .before .before .before .before .before .args) in
-    let p = (c .before .before .before .before .before .before .before .pre) in
-    let l = (c .before .loop) in
+    let a = c .before .before .before .before .before .before .before .args in
+    let p = c .before .before .before .before .before .before .before .pre in
+    let l = c .before .loop in
     let b = row-below (a .w) (l .q) (a .count) (omega arith) in
     omega (arith, p .0, p .1 .numbers)
 
 add-meet-row : tie.Need-add-meet-row Inv-loop μ-loop
 add-meet-row c =
-    let a = (c .before .before .before .before .before .before .before .before .before .before .args) in
-    let p = (c .before .before .before .before .before .before .before .before .before .before .pre) in
-    let l = (c .before .before .before .before .loop) in
+    let a = c .before .before .before .before .before .before .before .before .before .before .args in
+    let p = c .before .before .before .before .before .before .before .before .before .before .pre in
+    let l = c .before .before .before .before .loop in
     let b = row-below (a .w) (l .q) (a .count) (omega arith) in
     omega (arith, p .0, p .1 .numbers)
 
 mul-meet-row : tie.Need-mul-meet-row Inv-loop μ-loop
 mul-meet-row c =
-    let a = (c .before .before .before .before .before .before .before .before .before .before .args) in
-    let p = (c .before .before .before .before .before .before .before .before .before .before .pre) in
-    let l = (c .before .before .before .before .loop) in
+    let a = c .before .before .before .before .before .before .before .before .before .before .args in
+    let p = c .before .before .before .before .before .before .before .before .before .before .pre in
+    let l = c .before .before .before .before .loop in
     let b = row-below (a .w) (l .q) (a .count) (omega arith) in
     omega (arith, p .0, p .1 .numbers)
 
 sub-meet-row : tie.Need-sub-meet-row Inv-loop μ-loop
 sub-meet-row c =
-    let a = (c .before .before .before .before .before .before .before .before .before .before .args) in
-    let p = (c .before .before .before .before .before .before .before .before .before .before .pre) in
-    let l = (c .before .before .before .before .loop) in
+    let a = c .before .before .before .before .before .before .before .before .before .before .args in
+    let p = c .before .before .before .before .before .before .before .before .before .before .pre in
+    let l = c .before .before .before .before .loop in
     let b = row-below (a .w) (l .q) (a .count) (omega arith) in
     omega (arith, p .0, p .1 .numbers)
 
 part-meet-row-start : tie.Need-part-meet-row-start Inv-loop μ-loop
 part-meet-row-start c =
-    let a = (c .before .before .before .before .before .before .before .before .before .before .args) in
-    let p = (c .before .before .before .before .before .before .before .before .before .before .pre) in
-    let l = (c .before .before .before .before .loop) in
+    let a = c .before .before .before .before .before .before .before .before .before .before .args in
+    let p = c .before .before .before .before .before .before .before .before .before .before .pre in
+    let l = c .before .before .before .before .loop in
     let b = row-below (a .w) (l .q) (a .count) (omega arith) in
     omega (arith, p .0, p .1 .numbers)
 
 part-meet-row-end : tie.Need-part-meet-row-end Inv-loop μ-loop
 part-meet-row-end c =
-    let a = (c .before .before .before .before .before .before .before .before .before .before .args) in
-    let p = (c .before .before .before .before .before .before .before .before .before .before .pre) in
-    let l = (c .before .before .before .before .loop) in
+    let a = c .before .before .before .before .before .before .before .before .before .before .args in
+    let p = c .before .before .before .before .before .before .before .before .before .before .pre in
+    let l = c .before .before .before .before .loop in
     let b = row-below (a .w) (l .q) (a .count) (omega arith) in
     omega (arith, p .0, p .1 .numbers)
 
 add-meet-row-2 : tie.Need-add-meet-row-2 Inv-loop μ-loop
 add-meet-row-2 c =
-    let a = (c .before .before .before .before .before .before .before .before .before .before .before .before .args) in
-    let p = (c .before .before .before .before .before .before .before .before .before .before .before .before .pre) in
-    let l = (c .before .before .before .before .before .before .loop) in
+    let a = c .before .before .before .before .before .before .before .before .before .before .before .before .args in
+    let p = c .before .before .before .before .before .before .before .before .before .before .before .before .pre in
+    let l = c .before .before .before .before .before .before .loop in
     let b = row-below (a .w) (l .q) (a .count) (omega arith) in
     omega (arith, p .0, p .1 .numbers)
 
 meet-row-requires : tie.Need-meet-row-requires Inv-loop μ-loop
 meet-row-requires c κs =
-    let a = (c .before .before .before .before .before .before .before .before .before .before .before .before .args) in
-    let p = (c .before .before .before .before .before .before .before .before .before .before .before .before .pre) in
-    let l = (c .before .before .before .before .before .before .loop) in
+    let a = c .before .before .before .before .before .before .before .before .before .before .before .before .args in
+    let p = c .before .before .before .before .before .before .before .before .before .before .before .before .pre in
+    let l = c .before .before .before .before .before .before .loop in
     let b = row-below (a .w) (l .q) (a .count) (omega arith) in
     let many : length (rows (a .w) (l .q) (a .given .now)) ≡ l .q = length-rows (a .w) (l .q) (a .given .now) in
     let part = part-row (a .w) (l .q) (a .given .now) in
@@ -100,14 +100,14 @@ loop-less c = search needs
 
 loop-again : tie.Need-loop-again Inv-loop μ-loop
 loop-again c =
-    let a = (c .before .before .before .before .before .before .before .before .before .before .before .before .before .before .before .before .before .before .before .before .before .args) in
-    let p = (c .before .before .before .before .before .before .before .before .before .before .before .before .before .before .before .before .before .before .before .before .before .pre) in
-    let l = (c .before .before .before .before .before .before .before .before .before .before .before .before .before .before .before .loop) in
+    let a = c .before .before .before .before .before .before .before .before .before .before .before .before .before .before .before .before .before .before .before .before .before .args in
+    let p = c .before .before .before .before .before .before .before .before .before .before .before .before .before .before .before .before .before .before .before .before .before .pre in
+    let l = c .before .before .before .before .before .before .before .before .before .before .before .before .before .before .before .loop in
     let b = row-below (a .w) (l .q) (a .count) (omega arith) in
     let many : length (rows (a .w) (l .q) (a .given .now)) ≡ l .q = length-rows (a .w) (l .q) (a .given .now) in
     let part = part-row (a .w) (l .q) (a .given .now) in
     let size = length-part (a .w) (l .q) (a .count) (a .given .now) (omega arith) (p .0) in
-    let f = (c .before .before .before .before .before .before .before .before .meet-row) in
+    let f = c .before .before .before .before .before .before .before .before .meet-row in
     let met = rw size at (rw part at (f .ensures)) in (
       omega arith,
       f .kept .0 ∙ l .inv .1,
@@ -120,21 +120,21 @@ loop-again c =
     )
 
 same-length : tie.Need-same-length Inv-loop μ-loop
-same-length c = (c .before .loop) .inv .1
+same-length c = c .before .loop .inv .1
 
 same-length-2 : tie.Need-same-length-2 Inv-loop μ-loop
-same-length-2 c = (c .before .loop) .inv .2
+same-length-2 c = c .before .loop .inv .2
 
 same-length-3 : tie.Need-same-length-3 Inv-loop μ-loop
-same-length-3 c = (c .before .loop) .inv .3
+same-length-3 c = c .before .loop .inv .3
 
 same-length-4 : tie.Need-same-length-4 Inv-loop μ-loop
-same-length-4 c = (c .before .loop) .inv .4
+same-length-4 c = c .before .loop .inv .4
 
 returns : tie.Need-returns Inv-loop μ-loop
 returns c =
-    let l = (c .before .loop) in
-    let e : l .q ≡ (c .before .before .before .before .before .before .before .args) .count = omega arith in
+    let l = c .before .loop in
+    let e : l .q ≡ c .before .before .before .before .before .before .before .args .count = omega arith in
     rw e at (l .inv .5)
 
 pub meet-rows-spec : {M : Type 1} → statement M

@@ -38,8 +38,8 @@ shared-slice-read-if1-2 c = search needs
 
 returns : tie.Need-returns Inv-loop μ-loop
 returns c =
-    let a = (c .before .before .before .before .before .args) in
-    let l = (c .before .before .before .before .loop) in
+    let a = c .before .before .before .before .before .args in
+    let l = c .before .before .before .before .loop in
     sym (l .inv .1 ∙ eqs-turn (a .row .now) (a .list .now) (a .at) (l .i) (omega arith) (c .before .before .before .before .before .pre) ∙ rw (ne-eqb _ _ (c .if1 .taken)) refl)
 
 add-i : tie.Need-add-i Inv-loop μ-loop
@@ -50,17 +50,17 @@ loop-less c = search needs
 
 loop-again : tie.Need-loop-again Inv-loop μ-loop
 loop-again c =
-    let a = (c .before .before .before .before .before .args) in
-    let l = (c .before .before .before .before .loop) in
-    (omega arith, l .inv .1 ∙ eqs-turn (a .row .now) (a .list .now) (a .at) (l .i) (omega arith) (c .before .before .before .before .before .pre) ∙ rw (eq-eqb _ _ ((c .if1) .left)) refl)
+    let a = c .before .before .before .before .before .args in
+    let l = c .before .before .before .before .loop in
+    (omega arith, l .inv .1 ∙ eqs-turn (a .row .now) (a .list .now) (a .at) (l .i) (omega arith) (c .before .before .before .before .before .pre) ∙ rw (eq-eqb _ _ (c .if1 .left)) refl)
 
 returns-2 : tie.Need-returns-2 Inv-loop μ-loop
 unfolding eqs
 returns-2 c =
-    let a = (c .before .before .args) in
-    let l = (c .before .loop) in
+    let a = c .before .before .args in
+    let l = c .before .loop in
     let e : length (a .row .now) - l .i ≡ 0 = omega arith in
-    sym (l .inv .1 ∙ rw (e, drop-of-length-le (a .row .now) ((c .loop-test) .left)) refl)
+    sym (l .inv .1 ∙ rw (e, drop-of-length-le (a .row .now) (c .loop-test .left)) refl)
 
 pub same-row-spec : {M : Type 1} → statement M
 same-row-spec =
