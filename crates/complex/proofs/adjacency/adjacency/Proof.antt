@@ -37,9 +37,7 @@ group-requires-2 c κs =
 
 group-requires-3 : tie.Need-group-requires-3
 group-requires-3 c κs =
-    let a = c .before .before .before .before .before .before .before .before .before .before .before .before .before .before .before .before .before .before .before .before .before .before .before .before .before .before .before .before .before .before .args in
     let p = c .before .before .before .before .before .before .before .before .before .before .before .before .before .before .before .before .before .before .before .before .before .before .before .before .before .before .before .before .before .before .pre in
-    let f = c .before .before .before .before .before .before .before .before .before .before .before .before .before .before .before .before .before .before .before .edges-of-triangles in
     record {
       width = omega arith;
       few = omega (arith, p .few, p .consistent .alike);

@@ -66,7 +66,6 @@ meet-rows-requires c κs =
     let count : c .before .before .before .before .before .before .before .before .count .result ≡ countOf f = c .before .before .before .before .before .before .before .before .count .ensures in
     let l = c .before .before .before .before .before .before .before .loop in
     let met = l .inv .5 in
-    let five : 5 * l .k + 5 ≤ length (a .pents .now) = omega arith in
     let many = length-met-rows f (l .k) (a .pents .now) (omega arith) in
     let below = face-below f (l .k) P (omega arith) in
     rw (width, count) (
@@ -91,7 +90,6 @@ loop-again c =
     let count : c .before .before .before .before .before .before .before .before .before .before .before .before .before .before .before .before .count .result ≡ countOf f = c .before .before .before .before .before .before .before .before .before .before .before .before .before .before .before .before .count .ensures in
     let l = c .before .before .before .before .before .before .before .before .before .before .before .before .before .before .before .loop in
     let met = l .inv .5 in
-    let five : 5 * l .k + 5 ≤ length (a .pents .now) = omega arith in
     let many = length-met-rows f (l .k) (a .pents .now) (omega arith) in
     let below = face-below f (l .k) P (omega arith) in
     let g = c .before .before .before .before .before .before .before .meet-rows in

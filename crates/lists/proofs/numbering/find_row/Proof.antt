@@ -24,16 +24,12 @@ mul-cur : tie.Need-mul-cur Inv-loop μ-loop
 mul-cur c =
     let a = c .before .before .before .before .args in
     let p = c .before .before .before .before .pre in
-    let ks = rows (length (a .row .now)) (a .n) (a .list .now) in
-    let many : length (rows (length (a .row .now)) (a .n) (a .list .now)) ≡ a .n = length-rows (length (a .row .now)) (a .n) (a .list .now) in
     omega (arith, p .1, p .2 .chains, hash-below (a .row .now))
 
 shared-slice-read-cur : tie.Need-shared-slice-read-cur Inv-loop μ-loop
 shared-slice-read-cur c =
     let a = c .before .before .before .before .before .args in
     let p = c .before .before .before .before .before .pre in
-    let ks = rows (length (a .row .now)) (a .n) (a .list .now) in
-    let many : length (rows (length (a .row .now)) (a .n) (a .list .now)) ≡ a .n = length-rows (length (a .row .now)) (a .n) (a .list .now) in
     omega (arith, p .1, p .2 .chains, hash-below (a .row .now))
 
 cast-cur : tie.Need-cast-cur Inv-loop μ-loop
@@ -55,7 +51,6 @@ mul-same-row : tie.Need-mul-same-row Inv-loop μ-loop
 mul-same-row c =
     let a = c .before .before .before .before .before .before .before .args in
     let p = c .before .before .before .before .before .before .before .pre in
-    let ks = rows (length (a .row .now)) (a .n) (a .list .now) in
     let many : length (rows (length (a .row .now)) (a .n) (a .list .now)) ≡ a .n = length-rows (length (a .row .now)) (a .n) (a .list .now) in
     let l = c .before .loop in
     let h = row-below (length (a .row .now)) (l .cur - 1) (a .n) (omega arith) in
@@ -65,7 +60,6 @@ same-row-requires : tie.Need-same-row-requires Inv-loop μ-loop
 same-row-requires c κs =
     let a = c .before .before .before .before .before .before .before .args in
     let p = c .before .before .before .before .before .before .before .pre in
-    let ks = rows (length (a .row .now)) (a .n) (a .list .now) in
     let many : length (rows (length (a .row .now)) (a .n) (a .list .now)) ≡ a .n = length-rows (length (a .row .now)) (a .n) (a .list .now) in
     let l = c .before .loop in
     let h = row-below (length (a .row .now)) (l .cur - 1) (a .n) (omega arith) in
@@ -87,7 +81,6 @@ mul-cur-2 : tie.Need-mul-cur-2 Inv-loop μ-loop
 mul-cur-2 c =
     let a = c .before .before .before .before .before .before .before .before .before .args in
     let p = c .before .before .before .before .before .before .before .before .before .pre in
-    let ks = rows (length (a .row .now)) (a .n) (a .list .now) in
     let many : length (rows (length (a .row .now)) (a .n) (a .list .now)) ≡ a .n = length-rows (length (a .row .now)) (a .n) (a .list .now) in
     let l = c .before .before .before .loop in
     let h = row-below (length (a .row .now)) (l .cur - 1) (a .n) (omega arith) in
@@ -97,7 +90,6 @@ shared-slice-read-cur-2 : tie.Need-shared-slice-read-cur-2 Inv-loop μ-loop
 shared-slice-read-cur-2 c =
     let a = c .before .before .before .before .before .before .before .before .before .before .args in
     let p = c .before .before .before .before .before .before .before .before .before .before .pre in
-    let ks = rows (length (a .row .now)) (a .n) (a .list .now) in
     let many : length (rows (length (a .row .now)) (a .n) (a .list .now)) ≡ a .n = length-rows (length (a .row .now)) (a .n) (a .list .now) in
     let l = c .before .before .before .before .loop in
     let h = row-below (length (a .row .now)) (l .cur - 1) (a .n) (omega arith) in
@@ -110,7 +102,6 @@ loop-less : tie.Need-loop-less Inv-loop μ-loop
 loop-less c =
     let a = c .before .before .before .before .before .before .before .before .before .before .args in
     let p = c .before .before .before .before .before .before .before .before .before .before .pre in
-    let ks = rows (length (a .row .now)) (a .n) (a .list .now) in
     let many : length (rows (length (a .row .now)) (a .n) (a .list .now)) ≡ a .n = length-rows (length (a .row .now)) (a .n) (a .list .now) in
     let l = c .before .before .before .before .loop in
     let h = row-below (length (a .row .now)) (l .cur - 1) (a .n) (omega arith) in

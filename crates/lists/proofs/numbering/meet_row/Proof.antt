@@ -29,7 +29,6 @@ cast-numbers c =
     let a = c .before .before .before .before .before .before .before .before .before .before .args in
     let p = c .before .before .before .before .before .before .before .before .before .before .pre in
     let f = c .find-row in
-    let chain : c .before .before .before .before .chain-of .result ≡ hash (a .row .now) = c .before .before .before .before .chain-of .ensures in
     let le : f .result ≤ a .n = omega (arith, f .ensures, find-le (a .row .now) (rows (length (a .row .now)) (a .n) (a .list .now)), length-rows (length (a .row .now)) (a .n) (a .list .now)) in
     omega (arith, p .few)
 
@@ -56,7 +55,6 @@ returns c =
     let a = c .before .before .before .before .before .before .before .before .before .before .before .args in
     let p = c .before .before .before .before .before .before .before .before .before .before .before .pre in
     let f = c .before .find-row in
-    let chain : c .before .before .before .before .before .chain-of .result ≡ hash (a .row .now) = c .before .before .before .before .before .chain-of .ensures in
     met-old (length (a .row .now)) (a .list .now) (a .head .now) (a .next .now) (a .numbers .now) (a .n) (a .at) (f .result) (a .row .now) p (f .ensures) (c .if1 .taken)
 
 mul-copy-row : tie.Need-mul-copy-row
@@ -77,7 +75,6 @@ mul-next : tie.Need-mul-next
 mul-next c =
     let a = c .before .before .before .before .before .before .before .before .before .before .before .before .before .before .before .args in
     let p = c .before .before .before .before .before .before .before .before .before .before .before .before .before .before .before .pre in
-    let f = c .before .before .before .before .before .find-row in
     let chain : c .before .before .before .before .before .before .before .before .before .chain-of .result ≡ hash (a .row .now) = c .before .before .before .before .before .before .before .before .before .chain-of .ensures in
     omega (arith, p .indexed .chains, hash-below (a .row .now))
 
@@ -85,7 +82,6 @@ slice-read-next : tie.Need-slice-read-next
 slice-read-next c =
     let a = c .before .before .before .before .before .before .before .before .before .before .before .before .before .before .before .before .args in
     let p = c .before .before .before .before .before .before .before .before .before .before .before .before .before .before .before .before .pre in
-    let f = c .before .before .before .before .before .before .find-row in
     let chain : c .before .before .before .before .before .before .before .before .before .before .chain-of .result ≡ hash (a .row .now) = c .before .before .before .before .before .before .before .before .before .before .chain-of .ensures in
     omega (arith, p .indexed .chains, hash-below (a .row .now))
 
@@ -105,7 +101,6 @@ mul-head : tie.Need-mul-head
 mul-head c =
     let a = c .before .before .before .before .before .before .before .before .before .before .before .before .before .before .before .before .args in
     let p = c .before .before .before .before .before .before .before .before .before .before .before .before .before .before .before .before .pre in
-    let f = c .before .before .before .before .before .before .find-row in
     let chain : c .before .before .before .before .before .before .before .before .before .before .chain-of .result ≡ hash (a .row .now) = c .before .before .before .before .before .before .before .before .before .before .chain-of .ensures in
     omega (arith, p .indexed .chains, hash-below (a .row .now))
 
@@ -113,7 +108,6 @@ slice-write-head : tie.Need-slice-write-head
 slice-write-head c =
     let a = c .before .before .before .before .before .before .before .before .before .before .before .before .before .before .before .before .args in
     let p = c .before .before .before .before .before .before .before .before .before .before .before .before .before .before .before .before .pre in
-    let f = c .before .before .before .before .before .before .find-row in
     let chain : c .before .before .before .before .before .before .before .before .before .before .chain-of .result ≡ hash (a .row .now) = c .before .before .before .before .before .before .before .before .before .before .chain-of .ensures in
     omega (arith, p .indexed .chains, hash-below (a .row .now))
 
