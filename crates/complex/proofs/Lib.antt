@@ -4,7 +4,7 @@ pub mod Sorted
 pub mod Meetings
 pub mod TriangleEdges
 pub mod Incidence
-pub mod Lying
+pub mod FaceNumbers
 pub mod Whole
 pub mod Laws
 pub mod Pushing

@@ -17,7 +17,7 @@ use Rattle.lists.proofs.Loops.{length-scatter, scatter-at, hits-keep, hits-one,
 use Rattle.complex.specs.Complex.{edges, triangles, holding, triToPents, edgeToTris, edgeToPents}
 use Rattle.complex.specs.Pushed.{pushes, pushed}
 use Rattle.complex.proofs.Incidence.{Sorted, Keyed}
-use Rattle.complex.proofs.Lying.{keyed-triangles, keyed-edges, keyed-triangle-edges}
+use Rattle.complex.proofs.FaceNumbers.{keyed-triangles, keyed-edges, keyed-triangle-edges}
 
 fold-push : (xs is : List ℕ) → foldl (λ xs i. xs ++ i ∷ []) xs is ≡ xs ++ is
 fold-push xs [] = sym (append-nil xs)

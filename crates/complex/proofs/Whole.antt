@@ -20,7 +20,7 @@ use Rattle.complex.specs.Parts.{Faces, Numbered, numbersOf, EdgesOf, Len
 use Rattle.complex.proofs.Sorted.{sorted-wide-all, length-sorted-all, sorted-back}
 use Rattle.complex.proofs.Meetings.{count-le}
 use Rattle.complex.proofs.Incidence.{Sorted}
-use Rattle.complex.proofs.Lying.{length-numbers, numbers-below, face-met, consistent, faces-few, tri-to-pents, edge-to-pents, edge-to-tris-stored}
+use Rattle.complex.proofs.FaceNumbers.{length-numbers, numbers-below, face-met, consistent, faces-few, tri-to-pents, edge-to-pents, edge-to-tris-stored}
 
 -- room in a list of zeros, however long: its length is not computed
 pub zeros-room : (m n : ℕ) → n ≤ m → n ≤ length (replicate {A = ℕ} m 0)
