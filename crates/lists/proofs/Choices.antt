@@ -1,5 +1,5 @@
 -- The choices of a rising list are the rising lists within it, each once. Assumes nothing.
-use mathlib.Core.Path.{_≡_, refl, sym, ap, _∙_, subst}
+use mathlib.Core.Path.{_≡_, refl, sym, ap, subst}
 use mathlib.Core.Logic.{⊎-elim}
 use mathlib.Core.List.{List, [], _∷_, _++_, map, List·Memᴰ, List·Memᴰ·head, List·Memᴰ·tail, List·Memᴰ·cases-cons, List·Memᴰ·append-cases, List·Memᴰ·eq-of-singleton, List·Memᴰ·not-nil, Memᴰ·append-left, Memᴰ·append-right, Memᴰ·map, Memᴰ·of-map, Memᴰ·cast, tail-eq-of-cons-eq}
 use Prim.Native.Nat.{ℕ, zero, suc, _<_}
@@ -23,19 +23,6 @@ combos-within (x ∷ xs) (suc k) {t} m v n =
     let n′ : List·Memᴰ v (x ∷ r .0) = subst (λ (s : List ℕ). List·Memᴰ v s) (sym (r .2)) n in
     ⊎-elim List·Memᴰ·head (λ j. List·Memᴰ·tail (combos-within xs k (r .1) v j)) (List·Memᴰ·cases-cons n′))
     (λ a. List·Memᴰ·tail (combos-within xs (suc k) a v n))
-    (List·Memᴰ·append-cases (map (λ (s : List ℕ). x ∷ s) (combos xs k)) m)
-
-pub combos-length : (p : List ℕ) (k : ℕ) {t : List ℕ} → List·Memᴰ t (combos p k) → length t ≡ k
-unfolding combos
-combos-length [] zero m = ap length (List·Memᴰ·eq-of-singleton m)
-combos-length [] (suc k) m = absurd (List·Memᴰ·not-nil m)
-combos-length (x ∷ xs) zero m = ap length (List·Memᴰ·eq-of-singleton m)
-combos-length (x ∷ xs) (suc k) {t} m =
-    ⊎-elim
-    (λ a.
-    let r : (s : List ℕ) × List·Memᴰ s (combos xs k) × (x ∷ s ≡ t) = Memᴰ·of-map (λ (s : List ℕ). x ∷ s) (combos xs k) a in
-    ap length (sym (r .2)) ∙ ap suc (combos-length xs k (r .1)))
-    (combos-length xs (suc k))
     (List·Memᴰ·append-cases (map (λ (s : List ℕ). x ∷ s) (combos xs k)) m)
 
 pub combos-rising : (p : List ℕ) (k : ℕ) {t : List ℕ} → Rising p → List·Memᴰ t (combos p k) → Rising t × (length t ≡ k)

@@ -24,14 +24,6 @@ module _ {A : Type 0} where
   mem-getD d {a = a} (List·Memᴰ·tail {xs = xs} m) =
       let r : (i : ℕ) × (i < length xs) × (getD xs i d ≡ a) = mem-getD d m in (suc (r .0), suc-le-suc (r .1), r .2)
 
-  -- an element of a list with no element twice has one place
-  pub once-place : (xs : List A) (i j : ℕ) (d : A) → Once xs → i < length xs → j < length xs → getD xs i d ≡ getD xs j d → i ≡ j
-  once-place [] i j d o hi hj e = absurd (not-suc-le-zero hi)
-  once-place (x ∷ xs) zero zero d o hi hj e = refl
-  once-place (x ∷ xs) zero (suc j) d o hi hj e = absurd (o .0 (Memᴰ·cast e (getD-mem xs j d (le-of-suc-le-suc hj))))
-  once-place (x ∷ xs) (suc i) zero d o hi hj e = absurd (o .0 (Memᴰ·cast (sym e) (getD-mem xs i d (le-of-suc-le-suc hi))))
-  once-place (x ∷ xs) (suc i) (suc j) d o hi hj e = ap suc (once-place xs i j d (o .1) (le-of-suc-le-suc hi) (le-of-suc-le-suc hj) e)
-
   -- ---- `keep`
 
   pub keep-mem : {P : A → Type 0} {q : A → Bool} → ((a : A) → Says (P a) (q a)) → (xs : List A) {a : A} → List·Memᴰ a xs → P a → List·Memᴰ a (keep q xs)

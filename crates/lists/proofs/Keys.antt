@@ -195,7 +195,3 @@ firsts-room xs = omega (arith, go xs [])
     go : (xs known : List (List ℕ)) → length (foldl meet known xs) ≤ length known + length xs
     go [] known = omega arith
     go (x ∷ xs) known = omega (arith, go xs (meet known x), more known x)
-
--- a row stands at one place
-pub distinct-place : (xs : List (List ℕ)) → Distinct xs → (i j : ℕ) → i < length xs → j < length xs → getD xs i [] ≡ getD xs j [] → i ≡ j
-distinct-place xs d i j hi hj e = sym (d i hi) ∙ ap (λ (x : List ℕ). find x xs) e ∙ d j hj
