@@ -13,12 +13,12 @@ use Rattle.lists.proofs.Elements.{getD-mem, mem-getD, getD-map, map-gather, gat
 use Rattle.lists.proofs.Keys.{find-get, find-mem, firsts-room, firsts-has, firsts-only}
 use Rattle.complex.specs.declared.numbering.Face.{Face}
 use Rattle.complex.specs.declared.numbering.Face.the-variants.{Edge, Triangle}
-use Rattle.complex.specs.Complex.{countOf, facesOf, metFaces, faces, edges, triangles, triToPents, edgeToTris, edgeToPents}
-use Rattle.complex.specs.Parts.{numbersOf, edgePlaces, edgeAt, Consistent, EdgesOf}
+use Rattle.complex.specs.Complex.{countOf, facesOf, metFaces, faces, edges, triangles, triToPents, edgeToTris, edgeToPents, numbersOf, rowNumbers}
+use Rattle.complex.specs.Parts.{edgePlaces, edgeAt, Consistent, EdgesOf}
 use Rattle.complex.proofs.Sorted.{five-of}
 use Rattle.complex.proofs.Meetings.{count-faces, length-met}
 use Rattle.complex.proofs.TriangleEdges.{place-below}
-use Rattle.complex.proofs.Incidence.{Sorted, Keyed, rowNumbers, faces-distinct, faces-has, face-rising, edge-of-triangle, groups-holding}
+use Rattle.complex.proofs.Lying.{Sorted, Keyed, faces-distinct, faces-has, face-rising, edge-of-triangle, groups-holding}
 
 -- ---- edges of triangles within five vertices
 

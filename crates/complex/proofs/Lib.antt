@@ -3,7 +3,7 @@ pub mod Offences
 pub mod Sorted
 pub mod Meetings
 pub mod TriangleEdges
-pub mod Incidence
+pub mod Lying
 pub mod FaceNumbers
 pub mod Whole
 pub mod Laws

@@ -16,7 +16,7 @@ use Rattle.lists.proofs.Choices.{combos-within, combos-has, combos-once}
 use Rattle.lists.proofs.Loops.{length-scatter, scatter-at, hits-keep, hits-one, hits-none}
 use Rattle.complex.specs.Complex.{edges, triangles, holding, triToPents, edgeToTris, edgeToPents}
 use Rattle.complex.specs.Pushed.{pushes, pushed}
-use Rattle.complex.proofs.Incidence.{Sorted, Keyed}
+use Rattle.complex.proofs.Lying.{Sorted, Keyed}
 use Rattle.complex.proofs.FaceNumbers.{keyed-triangles, keyed-edges, keyed-triangle-edges}
 
 fold-push : (xs is : List ℕ) → foldl (λ xs i. xs ++ i ∷ []) xs is ≡ xs ++ is

@@ -14,12 +14,12 @@ use Rattle.lists.proofs.Sorting.{sort-rising}
 use Rattle.complex.specs.declared.Counts.{Counts}
 use Rattle.complex.specs.declared.numbering.Face.{Face}
 use Rattle.complex.specs.declared.numbering.Face.the-variants.{Edge, Triangle, Tet}
-use Rattle.complex.specs.Complex.{widthOf, countOf, faces, edges, triangles, tets, triToPents, edgeToTris, edgeToPents}
+use Rattle.complex.specs.Complex.{widthOf, countOf, faces, edges, triangles, tets, triToPents, edgeToTris, edgeToPents, numbersOf}
 use Rattle.complex.specs.Builder.{pentachorons, sortedPents, countsOf, Lists, lists, written, overAll}
-use Rattle.complex.specs.Parts.{Faces, Numbered, numbersOf, EdgesOf, Lent, Adjacent, Buildable}
+use Rattle.complex.specs.Parts.{Faces, Numbered, EdgesOf, Lent, Adjacent, Buildable}
 use Rattle.complex.proofs.Sorted.{sorted-wide-all, length-sorted-all, sorted-back}
 use Rattle.complex.proofs.Meetings.{count-le}
-use Rattle.complex.proofs.Incidence.{Sorted}
+use Rattle.complex.proofs.Lying.{Sorted}
 use Rattle.complex.proofs.FaceNumbers.{length-numbers, numbers-below, face-met, consistent, faces-few, tri-to-pents, edge-to-pents, edge-to-tris-stored}
 
 -- room in a list of zeros, however long: its length is not computed

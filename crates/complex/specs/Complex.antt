@@ -4,7 +4,7 @@ use Prim.Native.Nat.{ℕ}
 use mathlib.Core.List.{List, [], reverse, map}
 use lib.ListN.{length, getD}
 use Rattle.lists.specs.Lists.{keep, gather, upto, combos, within}
-use Rattle.lists.specs.Keys.{firsts}
+use Rattle.lists.specs.Keys.{find, firsts}
 use Rattle.complex.specs.declared.numbering.Face.{Face}
 use Rattle.complex.specs.declared.numbering.Face.the-variants.{Edge, Triangle, Tet}
 
@@ -65,3 +65,13 @@ edgeToTris ps = map (holding (triangles ps)) (edges ps)
 -- for each edge the pentachorons in which it lies
 unfoldable pub edgeToPents : List (List ℕ) → List (List ℕ)
 edgeToPents ps = map (holding ps) (edges ps)
+
+-- ---- numbers
+
+-- the numbers of the faces of k vertices of a simplex, among `keys`
+abbrev pub rowNumbers : List (List ℕ) → ℕ → List ℕ → List ℕ
+rowNumbers keys k r = map (λ s. find s keys) (combos r k)
+
+-- the number of each face, as it is met: for each pentachoron those of its faces
+unfoldable pub numbersOf : Face → List (List ℕ) → List ℕ
+numbersOf f ps = map (λ s. find s (faces f ps)) (metFaces f ps)

@@ -8,7 +8,7 @@ use Rattle.lists.specs.Keys.{find}
 use Rattle.lists.specs.Rows.{flat, rows, over}
 use Rattle.lists.specs.Groups.{Below}
 use Rattle.complex.specs.declared.numbering.Face.{Face}
-use Rattle.complex.specs.Complex.{widthOf, countOf, metFaces, faces}
+use Rattle.complex.specs.Complex.{widthOf, countOf, metFaces, faces, numbersOf}
 use Rattle.complex.specs.Builder.{Lists, pentachorons}
 
 -- there is room for the faces of P pentachorons: among the rows, the links of the chains and the numbers
@@ -18,10 +18,6 @@ pub record Faces (f : Face) (P pents list next numbers : ℕ) : Type 0 where
   pub room : widthOf f * (countOf f * P) ≤ list
   pub links : countOf f * P ≤ next
   pub numbered : countOf f * P ≤ numbers
-
--- the number of each face, as it is met
-unfoldable pub numbersOf : Face → List (List ℕ) → List ℕ
-numbersOf f ps = map (λ s. find s (faces f ps)) (metFaces f ps)
 
 -- the faces of ps are numbered: r is their count, `list′` has their rows, `numbers′` the number of each as it is met; the other places are kept
 pub record Numbered (f : Face) (ps : List (List ℕ)) (list list′ numbers numbers′ : List ℕ) (r : ℕ) : Type 0 where

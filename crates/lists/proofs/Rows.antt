@@ -8,7 +8,8 @@ use native.Mathlib.Omega.{arith}
 use lib.ListN.{length, getD, take, drop, length-append, length-drop, take-append-drop}
 use lib.Seq.{drop-drop, take-add, take-at, drop-at, length-take-le, take-all, take-length, slice, take-append-add, take-append-seam, drop-append-seam}
 use Rattle.lists.specs.Lists.{gather}
-use Rattle.lists.specs.Rows.{flat, rows, Wide, startsFrom, starts, over}
+use Rattle.lists.specs.Rows.{flat, rows, Wide, startsFrom, starts, over, begins}
+use Rattle.lists.proofs.Tests.{Says, pass, fail, eqb-says, and-says}
 
 -- ---- `rows`
 
@@ -150,6 +151,25 @@ over-take new old n e = take-at new (drop (length new) old) n e
 pub over-of : (new old xs : List ℕ) (n : ℕ) → take n xs ≡ new → length new ≡ n → drop n xs ≡ drop n old → xs ≡ over new old
 unfolding over
 over-of new old xs n a l b = sym (take-append-drop n xs) ∙ rw (l, a, b) refl
+
+-- ---- `begins`
+
+pub begins-says : (new xs : List ℕ) → Says (take (length new) xs ≡ new) (begins new xs)
+unfolding begins
+begins-says [] xs = pass refl
+begins-says (v ∷ new) [] = fail (λ e. let z : _≡_ {A = ℕ} 0 1 = cc in omega arith)
+begins-says (v ∷ new) (x ∷ xs) = and-says (λ p q. cc) (λ e. cc) (λ e. cc) (eqb-says v x) (begins-says new xs)
+
+-- a list is no shorter than its beginning
+pub begins-long : (new xs : List ℕ) → take (length new) xs ≡ new → length new ≤ length xs
+begins-long [] xs e = omega arith
+begins-long (v ∷ new) [] e = absurd (let z : _≡_ {A = ℕ} 0 1 = cc in omega arith)
+begins-long (v ∷ new) (x ∷ xs) e = let l = begins-long new xs cc in omega arith
+
+-- its beginning written over it changes nothing
+pub over-begins : (new xs : List ℕ) → take (length new) xs ≡ new → over new xs ≡ xs
+unfolding over
+over-begins new xs e = ap (λ (l : List ℕ). l ++ drop (length new) xs) (sym e) ∙ take-append-drop (length new) xs
 
 -- ---- parts
 

@@ -1,7 +1,9 @@
 -- Rows in one flat list, as the code has them: rows of one width, and rows of any length with their starts. Definitions only.
 use Prim.Native.Nat.{ℕ, zero, suc, _+_}
 use mathlib.Core.Path.{_≡_}
+use mathlib.Core.Bool.{Bool, true, false, _&&_}
 use mathlib.Core.List.{List, [], _∷_, _++_, List·Memᴰ}
+use lib.Dec.{eqb}
 use lib.ListN.{length, take, drop}
 
 -- the rows one after the other
@@ -30,3 +32,9 @@ starts xs = startsFrom 0 xs
 -- a lent list with new content written over its beginning; what follows is kept
 unfoldable pub over : List ℕ → List ℕ → List ℕ
 over new old = new ++ drop (length new) old
+
+-- a list has `new` at its beginning
+unfoldable pub begins : List ℕ → List ℕ → Bool
+begins [] xs = true
+begins (v ∷ new) [] = false
+begins (v ∷ new) (x ∷ xs) = eqb v x && begins new xs

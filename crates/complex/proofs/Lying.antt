@@ -15,7 +15,7 @@ use Rattle.lists.proofs.Rows.{flat-map}
 use Rattle.lists.proofs.Grouped.{holders-rows}
 use Rattle.complex.specs.declared.numbering.Face.{Face}
 use Rattle.complex.specs.declared.numbering.Face.the-variants.{Edge, Triangle, Tet}
-use Rattle.complex.specs.Complex.{widthOf, facesOf, metFaces, faces, edges, triangles, holding}
+use Rattle.complex.specs.Complex.{widthOf, facesOf, metFaces, faces, edges, triangles, holding, rowNumbers}
 
 -- ---- the faces of pentachorons
 
@@ -91,10 +91,6 @@ pub record Keyed (keys : List (List ℕ)) (k w : ℕ) (rs : List (List ℕ)) : T
   pub sorted : Sorted rs
   pub size : (r : List ℕ) → List·Memᴰ r rs → length (combos r k) ≡ w
   pub found : (r s : List ℕ) → List·Memᴰ r rs → List·Memᴰ s (combos r k) → List·Memᴰ s keys
-
--- the numbers of a row's faces
-abbrev pub rowNumbers : List (List ℕ) → ℕ → List ℕ → List ℕ
-rowNumbers keys k r = map (λ s. find s keys) (combos r k)
 
 module _ (keys : List (List ℕ)) (k w : ℕ) (rs : List (List ℕ)) (ok : Keyed keys k w rs) where
   numbers : List ℕ → List ℕ
