@@ -203,12 +203,12 @@ module _ (ks : List (List ℕ)) (h x s : List ℕ) (n : ℕ) (ix : Indexed ks h 
 
 -- ---- a row that is met
 
-module _ (w : ℕ) (e h x u : List ℕ) (n at k : ℕ) (s : List ℕ) (rd : Ready w e h x u n at 1) (is : k ≡ find s (rows w n e)) where
+module _ (w : ℕ) (e h x u : List ℕ) (n at k : ℕ) (s : List ℕ) (ix : Indexed (rows w n e) h x) (place : at < length u) (is : k ≡ find s (rows w n e)) where
   many : length (rows w n e) ≡ n
   many = length-rows w n e
 
   noted : set u at k ≡ take at u ++ k ∷ [] ++ drop (at + 1) u
-  noted = set-split u at k (omega (arith, rd .numbers)) ∙ sym (append-snoc (take at u) k (drop (suc at) u)) ∙ ap (λ (m : ℕ). take at u ++ k ∷ [] ++ drop m u) (sym (add-one at))
+  noted = set-split u at k place ∙ sym (append-snoc (take at u) k (drop (suc at) u)) ∙ ap (λ (m : ℕ). take at u ++ k ∷ [] ++ drop m u) (sym (add-one at))
 
   -- a row that is there already
   pub met-old : k < n → Met w e e h x u (set u at k) n at (s ∷ []) n
@@ -219,14 +219,11 @@ module _ (w : ℕ) (e h x u : List ℕ) (n at k : ℕ) (s : List ℕ) (rd : Read
         from = omega arith;
         to = omega arith;
         numbered = noted ∙ ap (λ (m : ℕ). take at u ++ m ∷ [] ++ drop (at + 1) u) is;
-        indexed = rd .indexed;
+        indexed = ix;
       }
 
   -- a new row
-  module _ (e′ : List ℕ) (size : length s ≡ w) (stored : e′ ≡ take (w * n) e ++ s ++ drop (w * n + length s) e) (ge : n ≤ k) where
-    room : w * n + w ≤ length e
-    room = omega (arith, rd .room, ap (λ (m : ℕ). w * m) (add-one n), mul-suc w n)
-
+  module _ (e′ : List ℕ) (size : length s ≡ w) (stored : e′ ≡ take (w * n) e ++ s ++ drop (w * n + length s) e) (ge : n ≤ k) (room : w * n + w ≤ length e) (links : n < length x) where
     front : length (take (w * n) e) ≡ w * n
     front = length-take-le (w * n) e (omega (arith, room))
 
@@ -267,7 +264,7 @@ module _ (w : ℕ) (e h x u : List ℕ) (n at k : ℕ) (s : List ℕ) (rd : Read
           to = omega arith;
           numbered = noted ∙ ap (λ (m : ℕ). take at u ++ m ∷ [] ++ drop (at + 1) u) (sym number);
           indexed = subst (λ (ks : List (List ℕ)). Indexed ks (set h (hash s) (n + 1)) (set x n (getD h (hash s) 0))) (sym both)
-              (grown (rows w n e) h x s n (rd .indexed) many (omega (arith, rd .links)) absent);
+              (grown (rows w n e) h x s n ix many links absent);
         }
 
 -- ---- rows that are met one after the other

@@ -2,7 +2,7 @@
 use mathlib.Core.Path.{_≡_, refl, sym, ap, _∙_}
 use mathlib.Core.Logic.{_⊎_, inl, inr, ⊎-elim}
 use mathlib.Core.Bool.{Bool, true, false, cond}
-use mathlib.Core.List.{List, [], _∷_, _++_, map, foldl, List·Memᴰ, List·Memᴰ·head, List·Memᴰ·tail, List·Memᴰ·cases-cons, List·Memᴰ·append-cases, List·Memᴰ·eq-of-singleton, List·Memᴰ·not-nil, Memᴰ·append-left, Memᴰ·append-right, Memᴰ·cast}
+use mathlib.Core.List.{List, [], _∷_, _++_, map, foldl, List·Memᴰ, List·Memᴰ·head, List·Memᴰ·tail, List·Memᴰ·cases-cons, List·Memᴰ·append-cases, List·Memᴰ·eq-of-singleton, List·Memᴰ·not-nil, append-assoc, append-nil, Memᴰ·append-left, Memᴰ·append-right, Memᴰ·cast}
 use Prim.Native.Nat.{ℕ, zero, suc, _+_, _≤_, _<_, suc-le-suc}
 use native.Mathlib.Nat.{le-of-suc-le-suc, not-suc-le-zero, zero-lt-suc}
 use native.Mathlib.Omega.{arith}
@@ -159,6 +159,15 @@ fold-only (x ∷ xs) known m =
     (λ k. ⊎-elim (λ e. inr (List·Memᴰ·head e)) inl (meet-only known x k))
     (λ k. inr (List·Memᴰ·tail k))
     (fold-only xs (meet known x) m)
+
+-- the rows that are known stand before those that are met
+pub fold-grows : (xs known : List (List ℕ)) → (zs : List (List ℕ)) × (foldl meet known xs ≡ known ++ zs)
+fold-grows [] known = ([], sym (append-nil known))
+fold-grows (x ∷ xs) known =
+    let r : (zs : List (List ℕ)) × (foldl meet (meet known x) xs ≡ meet known x ++ zs) = fold-grows xs (meet known x) in
+    let one : (ys : List (List ℕ)) × (meet known x ≡ known ++ ys) =
+    meet-cases known x (λ ks. (ys : List (List ℕ)) × (ks ≡ known ++ ys)) (λ h. ([], sym (append-nil known))) (λ f. (x ∷ [], refl)) in
+    (one .0 ++ r .0, r .1 ∙ ap (λ (l : List (List ℕ)). l ++ r .0) (one .1) ∙ append-assoc known (one .0) (r .0))
 
 -- known rows keep their numbers
 pub fold-find : (xs known : List (List ℕ)) {y : List ℕ} → List·Memᴰ y known → find y (foldl meet known xs) ≡ find y known

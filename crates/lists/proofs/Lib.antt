@@ -7,6 +7,7 @@ pub mod Choices
 pub mod Rows
 pub mod Sorting
 pub mod Chains
+pub mod Matches
 pub mod Grouped
 pub mod GroupSteps
 pub mod Loops

@@ -38,6 +38,22 @@ rows-snoc w (suc n) xs =
     (rows-snoc w n (drop w xs)
     ∙ ap (λ (r : List ℕ). rows w n (drop w xs) ++ take w r ∷ []) (drop-drop (w * n) w xs ∙ ap (λ (i : ℕ). drop i xs) (next-row w n)))
 
+-- the first rows and the others
+pub rows-split : (w n m : ℕ) (xs : List ℕ) → rows w (n + m) xs ≡ rows w n xs ++ rows w m (drop (w * n) xs)
+unfolding rows
+rows-split w zero m xs = let z : 0 + m ≡ m = omega arith in rw (mul-zero w, z) refl
+rows-split w (suc n) m xs =
+    let z : suc n + m ≡ suc (n + m) = omega arith in
+    ap (λ (i : ℕ). rows w i xs) z
+    ∙ ap (λ (r : List (List ℕ)). take w xs ∷ r)
+    (rows-split w n m (drop w xs) ∙ ap (λ (l : List ℕ). rows w n (drop w xs) ++ rows w m l) (drop-drop (w * n) w xs ∙ ap (λ (i : ℕ). drop i xs) (next-row w n)))
+
+-- the first of the rows
+pub take-rows : (w k n : ℕ) (xs : List ℕ) → k ≤ n → take k (rows w n xs) ≡ rows w k xs
+take-rows w k n xs h =
+    let e : k + (n - k) ≡ n = omega arith in
+    ap (take k) (ap (λ (i : ℕ). rows w i xs) (sym e) ∙ rows-split w k (n - k) xs) ∙ take-at (rows w k xs) (rows w (n - k) (drop (w * k) xs)) k (length-rows w k xs)
+
 -- a row below another ends before it begins
 pub row-below : (w k n : ℕ) → k < n → w * k + w ≤ w * n
 row-below w k n h = let l : w * suc k ≤ w * n = mul-le-mul-left w h in omega (arith, l, mul-suc w k)

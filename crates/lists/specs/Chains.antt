@@ -1,8 +1,10 @@
 -- Rows searched by chains, one chain for each value of a small hash, and numbered as they are met. Definitions only.
 use Prim.Native.Nat.{ℕ, _+_, _*_, _-_, _%_, _≤_, _<_}
 use mathlib.Core.Path.{_≡_}
+use mathlib.Core.Bool.{true, false}
 use mathlib.Core.List.{List, [], _++_, map, foldl}
 use lib.ListN.{length, getD, take, drop}
+use Rattle.lists.specs.declared.numbering.Match.{Match}
 use Rattle.lists.specs.Keys.{find, meet, Distinct}
 use Rattle.lists.specs.Rows.{rows}
 
@@ -46,3 +48,24 @@ pub record Met (w : ℕ) (e e′ h′ x′ u u′ : List ℕ) (n at : ℕ) (ts :
   pub to : r ≤ n + length ts
   pub numbered : u′ ≡ take at u ++ map (λ s. find s (rows w r e′)) ts ++ drop (at + length ts) u
   pub indexed : Indexed (rows w r e′) h′ x′
+
+-- ---- rows compared with those of a list
+
+-- the first n of the m rows of w numbers in e are chained by h and x, and there is room for the numbers of c rows in u from place `at` on
+pub record Comparable (w : ℕ) (e h x u : List ℕ) (n m at c : ℕ) : Type 0 where
+  pub indexed : Indexed (rows w n e) h x
+  pub known : n ≤ m
+  pub room : w * m ≤ length e
+  pub links : m ≤ length x
+  pub numbers : at + c ≤ length u
+  pub few : m < 1000000
+
+-- the m rows of w numbers in e begin with ks
+pub record Stand (w : ℕ) (e : List ℕ) (m : ℕ) (ks : List (List ℕ)) : Type 0 where
+  pub few : length ks ≤ m
+  pub same : rows w (length ks) e ≡ ks
+
+-- the rows ts are met in e as it is, n of whose m rows are known: they are met, with nothing written, or e has other rows. In that case the chains and numbers are left in some state
+pub record Compared (w : ℕ) (e h′ x′ u u′ : List ℕ) (n m at : ℕ) (ts : List (List ℕ)) (r : Match) : Type 0 where
+  pub yes : r .same ≡ true → Met w e e h′ x′ u u′ n at ts (r .rows) × (r .rows ≤ m)
+  pub no : r .same ≡ false → Stand w e m (foldl meet (rows w n e) ts) → ⊥

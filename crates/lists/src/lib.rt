@@ -3,4 +3,7 @@ mod groups;
 mod numbering;
 
 pub use groups::group;
+pub use numbering::Match;
+pub use numbering::copy_row;
+pub use numbering::match_rows;
 pub use numbering::meet_rows;

@@ -55,7 +55,7 @@ returns c =
     let a = c .before .before .before .before .before .before .before .before .before .before .before .args in
     let p = c .before .before .before .before .before .before .before .before .before .before .before .pre in
     let f = c .before .find-row in
-    met-old (length (a .row .now)) (a .list .now) (a .head .now) (a .next .now) (a .numbers .now) (a .n) (a .at) (f .result) (a .row .now) p (f .ensures) (c .if1 .taken)
+    met-old (length (a .row .now)) (a .list .now) (a .head .now) (a .next .now) (a .numbers .now) (a .n) (a .at) (f .result) (a .row .now) (p .indexed) (omega (arith, p .numbers)) (f .ensures) (c .if1 .taken)
 
 mul-copy-row : tie.Need-mul-copy-row
 mul-copy-row c =
@@ -132,9 +132,10 @@ returns-2 c =
     let p = c .before .before .before .before .before .before .before .before .before .before .before .before .before .before .before .before .pre in
     let f = c .before .before .before .before .before .before .find-row in
     let chain : c .before .before .before .before .before .before .before .before .before .before .chain-of .result ≡ hash (a .row .now) = c .before .before .before .before .before .before .before .before .before .before .chain-of .ensures in
+    let r : length (a .row .now) * (a .n) + length (a .row .now) ≤ length (a .list .now) = omega (arith, p .room, ap (λ (m : ℕ). length (a .row .now) * m) (add-one (a .n)), mul-suc (length (a .row .now)) (a .n)) in
     rw chain
-    (met-new (length (a .row .now)) (a .list .now) (a .head .now) (a .next .now) (a .numbers .now) (a .n) (a .at) (f .result) (a .row .now) p (f .ensures)
-    (c .before .before .before .copy-row .last .0) refl (c .before .before .before .copy-row .ensures) (c .before .before .before .before .before .if1 .left))
+    (met-new (length (a .row .now)) (a .list .now) (a .head .now) (a .next .now) (a .numbers .now) (a .n) (a .at) (f .result) (a .row .now) (p .indexed) (omega (arith, p .numbers)) (f .ensures)
+    (c .before .before .before .copy-row .last .0) refl (c .before .before .before .copy-row .ensures) (c .before .before .before .before .before .if1 .left) r (omega (arith, p .links)))
 
 pub meet-row-spec : {M : Type 1} → statement M
 meet-row-spec =
