@@ -23,7 +23,8 @@ use Rattle.complex.specs.Complex.{widthOf, facesOf, metFaces, faces, edg
 abbrev pub Sorted : List (List ℕ) → Type 0
 Sorted ps = (p : List ℕ) → List·Memᴰ p ps → Rising p
 
-choice-of : (f : Face) (p : List ℕ) {s : List ℕ} → List·Memᴰ s (facesOf f p) → List·Memᴰ s (combos p (widthOf f))
+-- a face is a choice of vertices
+pub choice-of : (f : Face) (p : List ℕ) {s : List ℕ} → List·Memᴰ s (facesOf f p) → List·Memᴰ s (combos p (widthOf f))
 choice-of Edge p m = m
 choice-of Triangle p m = m
 choice-of Tet p m = mem-reverse (combos p 4) m

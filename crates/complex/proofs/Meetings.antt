@@ -47,18 +47,23 @@ count-le Edge = omega arith
 count-le Triangle = omega arith
 count-le Tet = omega arith
 
+pub width-le : (f : Face) → widthOf f ≤ 4
+width-le Edge = omega arith
+width-le Triangle = omega arith
+width-le Tet = omega arith
+
 -- it begins with no face
 pub ready-none : (f : Face) (P pents : ℕ) (e h x u : List ℕ) (m : ℕ) → m ≡ 32768 → h ≡ lib.ListN.replicate m 0 → Faces f P pents (length e) (length x) (length u)
     → Ready (widthOf f) e h x u 0 0 (countOf f * P)
 unfolding rows
 ready-none f P pents e h x u m q r room =
-    let b : countOf f * P ≤ countOf f * 8192 = mul-le-mul-left (countOf f) (room .few) in
+    let b : countOf f * P ≤ countOf f * 8192 = mul-le-mul-left (countOf f) (room .searched .few) in
     let z : 0 + countOf f * P ≡ countOf f * P = omega arith in
     record {
       indexed = indexed-none h x m q r;
       room = rw z (room .room);
-      links = omega (arith, room .links);
-      numbers = omega (arith, room .numbered);
+      links = omega (arith, room .searched .links);
+      numbers = omega (arith, room .searched .numbered);
       few = omega (arith, count-le f);
     }
 

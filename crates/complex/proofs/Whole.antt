@@ -59,11 +59,8 @@ module _ (given : List ℕ) (l : Lists) (ok : Buildable given l) where
         let c : countOf f * (length given / 5) ≤ 10 * (length given / 5) = mul-le-mul-right (length given / 5) (count-le f) in
         rw (n, part-long)
         (record {
-          five = omega (arith, ok .whole);
-          few = omega (arith, ok .few);
+          searched = record { five = omega (arith, ok .whole); few = omega (arith, ok .few); links = omega (arith, ok .few); numbered = omega (arith, ok .few) };
           room = room;
-          links = omega (arith, ok .few);
-          numbered = omega (arith, ok .few);
         })
 
   -- ---- the numbers of faces

@@ -12,9 +12,10 @@ use Rattle.lists.specs.Rows.{flat, starts, over, begins}
 use Rattle.complex.specs.declared.Counts.{Counts}
 use Rattle.complex.specs.declared.Built.{Built}
 use Rattle.complex.specs.declared.Built.the-variants.{Done, Refused}
+use Rattle.complex.specs.declared.numbering.Face.{Face}
 use Rattle.complex.specs.declared.numbering.Face.the-variants.{Edge, Triangle}
 use Rattle.complex.specs.declared.checks.Rooms.{Rooms}
-use Rattle.complex.specs.Complex.{holding, numbersOf}
+use Rattle.complex.specs.Complex.{faces, holding, numbersOf}
 use Rattle.complex.specs.Builder.{sortedPents, checkOf, builtOf, Lists, written}
 
 -- ---- a built complex
@@ -66,6 +67,10 @@ unfoldable pub isBuilt : Counts → Lists → Bool
 isBuilt c l = leb (5 * c .pentachorons) (length (l .pents)) && answers (answerFor c l) c && beginAll (written (sortedPents (givenOf c l))) l
 
 -- ---- the parts of the check
+
+-- a list begins with the faces of a kind, and n is their count
+unfoldable pub hasFaces : Face → List (List ℕ) → ℕ → List ℕ → Bool
+hasFaces f ps n list = eqb n (length (faces f ps)) && begins (flat (faces f ps)) list
 
 -- items and starts begin with the numbers of the rows in which each key lies
 unfoldable pub holds : List (List ℕ) → List (List ℕ) → List ℕ → List ℕ → Bool

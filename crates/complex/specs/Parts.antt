@@ -11,13 +11,17 @@ use Rattle.complex.specs.declared.numbering.Face.{Face}
 use Rattle.complex.specs.Complex.{widthOf, countOf, metFaces, faces, numbersOf}
 use Rattle.complex.specs.Builder.{Lists, pentachorons}
 
--- there is room for the faces of P pentachorons: among the rows, the links of the chains and the numbers
-pub record Faces (f : Face) (P pents list next numbers : ℕ) : Type 0 where
+-- whole pentachorons, and room for the links of the chains and the numbers of their faces
+pub record Searched (f : Face) (P pents next numbers : ℕ) : Type 0 where
   pub five : pents ≡ 5 * P
   pub few : P ≤ 8192
-  pub room : widthOf f * (countOf f * P) ≤ list
   pub links : countOf f * P ≤ next
   pub numbered : countOf f * P ≤ numbers
+
+-- the same, and room for the rows
+pub record Faces (f : Face) (P pents list next numbers : ℕ) : Type 0 where
+  pub searched : Searched f P pents next numbers
+  pub room : widthOf f * (countOf f * P) ≤ list
 
 -- the faces of ps are numbered: r is their count, `list′` has their rows, `numbers′` the number of each as it is met; the other places are kept
 pub record Numbered (f : Face) (ps : List (List ℕ)) (list list′ numbers numbers′ : List ℕ) (r : ℕ) : Type 0 where

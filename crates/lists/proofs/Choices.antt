@@ -1,5 +1,5 @@
 -- The choices of a rising list are the rising lists within it, each once. Assumes nothing.
-use mathlib.Core.Path.{_≡_, refl, sym, ap, subst}
+use mathlib.Core.Path.{_≡_, refl, sym, ap, _∙_, subst}
 use mathlib.Core.Logic.{⊎-elim}
 use mathlib.Core.List.{List, [], _∷_, _++_, map, List·Memᴰ, List·Memᴰ·head, List·Memᴰ·tail, List·Memᴰ·cases-cons, List·Memᴰ·append-cases, List·Memᴰ·eq-of-singleton, List·Memᴰ·not-nil, Memᴰ·append-left, Memᴰ·append-right, Memᴰ·map, Memᴰ·of-map, Memᴰ·cast, tail-eq-of-cons-eq}
 use Prim.Native.Nat.{ℕ, zero, suc, _<_}
@@ -25,19 +25,34 @@ combos-within (x ∷ xs) (suc k) {t} m v n =
     (λ a. List·Memᴰ·tail (combos-within xs (suc k) a v n))
     (List·Memᴰ·append-cases (map (λ (s : List ℕ). x ∷ s) (combos xs k)) m)
 
-pub combos-rising : (p : List ℕ) (k : ℕ) {t : List ℕ} → Rising p → List·Memᴰ t (combos p k) → Rising t × (length t ≡ k)
+pub combos-length : (p : List ℕ) (k : ℕ) {t : List ℕ} → List·Memᴰ t (combos p k) → length t ≡ k
 unfolding combos
-combos-rising [] zero r m = rw (List·Memᴰ·eq-of-singleton m) (tt, refl)
-combos-rising [] (suc k) r m = absurd (List·Memᴰ·not-nil m)
-combos-rising (x ∷ xs) zero r m = rw (List·Memᴰ·eq-of-singleton m) (tt, refl)
-combos-rising (x ∷ xs) (suc k) {t} r m =
+combos-length [] zero m = ap length (List·Memᴰ·eq-of-singleton m)
+combos-length [] (suc k) m = absurd (List·Memᴰ·not-nil m)
+combos-length (x ∷ xs) zero m = ap length (List·Memᴰ·eq-of-singleton m)
+combos-length (x ∷ xs) (suc k) {t} m =
     ⊎-elim
     (λ a.
     let q : (s : List ℕ) × List·Memᴰ s (combos xs k) × (x ∷ s ≡ t) = Memᴰ·of-map (λ (s : List ℕ). x ∷ s) (combos xs k) a in
-    let h : Rising (q .0) × (length (q .0) ≡ k) = combos-rising xs k (r .1) (q .1) in
-    rw (← q .2) (((λ v n. r .0 v (combos-within xs k (q .1) v n)), h .0), ap suc (h .1)))
-    (λ a. combos-rising xs (suc k) (r .1) a)
+    ap length (sym (q .2)) ∙ ap suc (combos-length xs k (q .1)))
+    (combos-length xs (suc k))
     (List·Memᴰ·append-cases (map (λ (s : List ℕ). x ∷ s) (combos xs k)) m)
+
+rising-choice : (p : List ℕ) (k : ℕ) {t : List ℕ} → Rising p → List·Memᴰ t (combos p k) → Rising t
+unfolding combos
+rising-choice [] zero r m = rw (List·Memᴰ·eq-of-singleton m) tt
+rising-choice [] (suc k) r m = absurd (List·Memᴰ·not-nil m)
+rising-choice (x ∷ xs) zero r m = rw (List·Memᴰ·eq-of-singleton m) tt
+rising-choice (x ∷ xs) (suc k) {t} r m =
+    ⊎-elim
+    (λ a.
+    let q : (s : List ℕ) × List·Memᴰ s (combos xs k) × (x ∷ s ≡ t) = Memᴰ·of-map (λ (s : List ℕ). x ∷ s) (combos xs k) a in
+    rw (← q .2) ((λ v n. r .0 v (combos-within xs k (q .1) v n)), rising-choice xs k (r .1) (q .1)))
+    (rising-choice xs (suc k) (r .1))
+    (List·Memᴰ·append-cases (map (λ (s : List ℕ). x ∷ s) (combos xs k)) m)
+
+pub combos-rising : (p : List ℕ) (k : ℕ) {t : List ℕ} → Rising p → List·Memᴰ t (combos p k) → Rising t × (length t ≡ k)
+combos-rising p k r m = (rising-choice p k r m, combos-length p k m)
 
 pub combos-has : (p : List ℕ) (k : ℕ) (t : List ℕ) → Rising p → Rising t → length t ≡ k → Within t p → List·Memᴰ t (combos p k)
 unfolding combos

@@ -1,5 +1,5 @@
 -- What a test says: a proposition where it passes, its negation where it fails. Assumes nothing.
-use mathlib.Core.Path.{_≡_, refl, sym, subst}
+use mathlib.Core.Path.{_≡_, refl, subst}
 use mathlib.Core.Logic.{_⊎_, inl, inr, ⊎-elim}
 use mathlib.Core.Bool.{Bool, true, false, not, _&&_, _||_}
 use Prim.Native.Nat.{ℕ, _≤_, _<_}
@@ -54,15 +54,6 @@ or-says f g h (fail n) (fail m) = fail (λ r. ⊎-elim n m (h r))
 -- no test both passes and fails
 pub not-both : {b : Bool} → b ≡ true → b ≡ false → ⊥
 not-both p q = let z : _≡_ {A = ℕ} 0 1 = cc in omega arith
-
--- what a test turned round says
-pub turned : (b : Bool) → not b ≡ true → b ≡ false
-turned true e = sym e
-turned false e = refl
-
-pub turned-back : (b : Bool) → not b ≡ false → b ≡ true
-turned-back true e = refl
-turned-back false e = sym e
 
 pub said : {P : Type 0} {b : Bool} → Says P b → b ≡ true → P
 said (pass p) e = p

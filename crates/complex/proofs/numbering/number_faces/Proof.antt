@@ -39,7 +39,7 @@ loop-holds c =
     (omega arith, refl, refl, refl, ready, met-none (widthOf f) (a .list .now) _ (a .next .now) (a .numbers .now) 0 0 (ready .indexed))
 
 mul-rows-at : tie.Need-mul-rows-at Inv-loop μ-loop
-mul-rows-at c = omega (arith, c .before .before .before .before .before .before .before .before .pre .five, c .before .before .before .before .before .before .before .before .pre .few)
+mul-rows-at c = omega (arith, c .before .before .before .before .before .before .before .before .pre .searched .five, c .before .before .before .before .before .before .before .before .pre .searched .few)
 
 rows-at-requires : tie.Need-rows-at-requires Inv-loop μ-loop
 rows-at-requires c κs = omega arith
@@ -54,7 +54,7 @@ mul-meet-rows : tie.Need-mul-meet-rows Inv-loop μ-loop
 mul-meet-rows c =
     let f = c .before .before .before .before .before .before .before .before .before .before .before .before .before .before .args .face in
     let below = face-below f (c .before .before .before .before .before .before .before .loop .k) (length (c .before .before .before .before .before .before .before .before .before .before .before .before .before .before .args .pents .now) / 5) (omega arith) in
-    rw (c .before .before .before .before .before .before .before .before .count .ensures) (omega (arith, c .before .before .before .before .before .before .before .before .before .before .before .before .before .before .pre .links))
+    rw (c .before .before .before .before .before .before .before .before .count .ensures) (omega (arith, c .before .before .before .before .before .before .before .before .before .before .before .before .before .before .pre .searched .links))
 
 meet-rows-requires : tie.Need-meet-rows-requires Inv-loop μ-loop
 meet-rows-requires c κs =
@@ -101,7 +101,7 @@ loop-again c =
       l .inv .4,
       rw (met-next f (l .k) (a .pents .now))
           (met-trans (widthOf f) (a .list .now) (l .list) (l .head) (l .next) (g .last .0) (g .last .1 .0) (g .last .1 .1 .0) (a .numbers .now) (l .numbers) (g .last .1 .1 .1 .1 .1 .1 .1 .0) 0 (l .n) (g .result) 0 (countOf f * l .k) (metFaces f (rows 5 (l .k) (a .pents .now))) (facesOf f (take 5 (drop (5 * l .k) (a .pents .now))))
-          met all (omega (arith, many)) (omega (arith, p .numbered))),
+          met all (omega (arith, many)) (omega (arith, p .searched .numbered))),
     )
 
 same-length : tie.Need-same-length Inv-loop μ-loop

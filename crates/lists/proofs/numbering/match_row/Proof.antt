@@ -5,13 +5,13 @@ use native.Mathlib.Nat.{mul-le-mul-left}
 use native.Mathlib.Omega.{arith}
 use lib.ListN.{length}
 use borrow.Author.Needs.{needs}
+use borrow.Author.Tests.{not-true, not-false}
 use Rattle.lists.specs.Chains.{hash}
 use Rattle.lists.specs.Rows.{rows}
 use Rattle.lists.proofs.Chains.{hash-below}
 use Rattle.lists.proofs.Keys.{find-le}
 use Rattle.lists.proofs.Matches.{next-room, compared-old, compared-full, compared-other, compared-new}
 use Rattle.lists.proofs.Rows.{length-rows}
-use Rattle.lists.proofs.Tests.{turned, turned-back}
 use Rattle.lists.proofs.numbering.match_row.Statement.{statement}
 use Rattle.lists.proofs.numbering.match_row.Tie as tie
 
@@ -85,7 +85,7 @@ same-length-9 c = search needs
 returns-3 : tie.Need-returns-3
 returns-3 c = let a = c .before .before .before .before .before .before .before .before .before .before .before .before .before .args in
     let p = c .before .before .before .before .before .before .before .before .before .before .before .before .before .pre in
-    compared-other (length (a .row .now)) (a .list .now) (a .head .now) (a .next .now) (a .numbers .now) (a .n) (a .most) (a .at) (c .before .before .before .before .find-row .result) (a .row .now) p (c .before .before .before .before .find-row .ensures) (c .before .before .before .if1 .left) refl (c .before .before .if2 .left) (sym (c .before .same-row .ensures) ∙ turned (c .before .same-row .result) (c .if3 .taken))
+    compared-other (length (a .row .now)) (a .list .now) (a .head .now) (a .next .now) (a .numbers .now) (a .n) (a .most) (a .at) (c .before .before .before .before .find-row .result) (a .row .now) p (c .before .before .before .before .find-row .ensures) (c .before .before .before .if1 .left) refl (c .before .before .if2 .left) (sym (c .before .same-row .ensures) ∙ not-true (c .before .same-row .result) (c .if3 .taken))
 
 mul-next : tie.Need-mul-next
 mul-next c = let a = c .before .before .before .before .before .before .before .before .before .before .before .before .before .args in
@@ -139,7 +139,7 @@ returns-4 : tie.Need-returns-4
 returns-4 c = let a = c .before .before .before .before .before .before .before .before .before .before .before .before .before .before .args in
     let p = c .before .before .before .before .before .before .before .before .before .before .before .before .before .before .pre in
     let chain : c .before .before .before .before .before .before .before .before .chain-of .result ≡ hash (a .row .now) = c .before .before .before .before .before .before .before .before .chain-of .ensures in
-    rw chain (compared-new (length (a .row .now)) (a .list .now) (a .head .now) (a .next .now) (a .numbers .now) (a .n) (a .most) (a .at) (c .before .before .before .before .before .find-row .result) (a .row .now) p (c .before .before .before .before .before .find-row .ensures) (c .before .before .before .before .if1 .left) refl (c .before .before .before .if2 .left) (sym (c .before .before .same-row .ensures) ∙ turned-back (c .before .before .same-row .result) (c .before .if3 .left)))
+    rw chain (compared-new (length (a .row .now)) (a .list .now) (a .head .now) (a .next .now) (a .numbers .now) (a .n) (a .most) (a .at) (c .before .before .before .before .before .find-row .result) (a .row .now) p (c .before .before .before .before .before .find-row .ensures) (c .before .before .before .before .if1 .left) refl (c .before .before .before .if2 .left) (sym (c .before .before .same-row .ensures) ∙ not-false (c .before .before .same-row .result) (c .before .if3 .left)))
 
 pub match-row-spec : {M : Type 1} → statement M
 match-row-spec =

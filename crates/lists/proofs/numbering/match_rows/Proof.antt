@@ -7,13 +7,14 @@ use native.Mathlib.Numerals.{add-one}
 use native.Mathlib.Omega.{arith}
 use lib.ListN.{length, take, drop}
 use borrow.Author.Needs.{needs}
+use borrow.Author.Tests.{not-true, not-false}
 use Rattle.lists.specs.Chains.{Met}
 use Rattle.lists.specs.Keys.{meet}
 use Rattle.lists.specs.Rows.{rows}
 use Rattle.lists.proofs.Chains.{met-none, met-trans}
 use Rattle.lists.proofs.Matches.{comparable-next, others-all}
 use Rattle.lists.proofs.Rows.{length-rows, rows-snoc, row-below, part-row, length-part}
-use Rattle.lists.proofs.Tests.{turned, turned-back, not-both}
+use Rattle.lists.proofs.Tests.{not-both}
 use Rattle.lists.proofs.numbering.match_rows.Statement.{statement}
 use Rattle.lists.proofs.numbering.match_rows.Tie as tie
 
@@ -106,7 +107,7 @@ returns c = let a = c .before .before .before .before .before .before .before .b
     let part = part-row (a .w) (l .q) (a .given .now) in
     let size = length-part (a .w) (l .q) (a .count) (a .given .now) (omega arith) (p .0) in
     let told = rw size at (rw part at (c .before .before .before .before .before .before .before .before .match-row .ensures)) in
-    let off = turned (c .before .before .before .before .before .before .before .before .match-row .result .same) (c .if1 .taken) in
+    let off = not-true (c .before .before .before .before .before .before .before .before .match-row .result .same) (c .if1 .taken) in
     record {
       yes = λ t. absurd (not-both t off);
       no =
@@ -129,7 +130,7 @@ loop-again c = let a = c .before .before .before .before .before .before .before
     let part = part-row (a .w) (l .q) (a .given .now) in
     let size = length-part (a .w) (l .q) (a .count) (a .given .now) (omega arith) (p .0) in
     let told = rw size at (rw part at (c .before .before .before .before .before .before .before .before .match-row .ensures)) in
-    let on = told .yes (turned-back (c .before .before .before .before .before .before .before .before .match-row .result .same) (c .if1 .left)) in (
+    let on = told .yes (not-false (c .before .before .before .before .before .before .before .before .match-row .result .same) (c .if1 .left)) in (
       omega arith,
       c .before .before .before .before .before .before .before .before .match-row .kept .1 .0 ∙ l .inv .1,
       c .before .before .before .before .before .before .before .before .match-row .kept .1 .1 .0 ∙ l .inv .2,
