@@ -1,5 +1,5 @@
 -- Laws of what the builder writes: pentachorons are kept and sorted, adjacency lists ascend, and a sorted list is built into the same lists. Assumes nothing.
--- That no face stands twice and each is found at one index is `faces-distinct` and `faces-found`; that a face's list holds exactly the rows in which it lies is `mem-holding` and `holding-mem` (Incidence).
+-- That no face stands twice and each is found at one index is `faces-distinct` and `faces-found`; that a face's list holds exactly the rows in which it lies is `mem-holding` and `holding-mem` (Lying).
 use Prim.Native.Nat.{ℕ, _+_, _/_, _%_, _<_}
 use mathlib.Core.Path.{_≡_, refl, ap, _∙_, subst}
 use mathlib.Core.Bool.{false}
@@ -45,6 +45,11 @@ holding-rising rs s = keep-rising (λ i. within s (getD rs i [])) (upto (length 
 
 -- ---- building from the sorted list
 
+-- ascending lists, sorted, are the same
+pub all-sorted : (ps : List (List ℕ)) → ((p : List ℕ) → List·Memᴰ p ps → Ascending p) → map sort ps ≡ ps
+all-sorted [] h = refl
+all-sorted (p ∷ ps) h = λ i. sort-sorted p (h p (List·Memᴰ·head refl)) i ∷ all-sorted ps (λ q m. h q (List·Memᴰ·tail m)) i
+
 module _ (given : List ℕ) (whole : length given % 5 ≡ 0) where
   again-long : length (flat (sortedPents given)) ≡ length given
   again-long = length-flat 5 (sortedPents given) (sorted-wide-all given) ∙ omega (arith, length-sorted-all given)
@@ -55,24 +60,21 @@ module _ (given : List ℕ) (whole : length given % 5 ≡ 0) where
   -- the sorted pentachorons, sorted again, are the same
   pub sorted-again : sortedPents (flat (sortedPents given)) ≡ sortedPents given
   sorted-again = sorted-is (flat (sortedPents given)) ∙ ap (map sort) (sorted-back given) ∙ all-sorted (sortedPents given) ascending
-    where
-      all-sorted : (ps : List (List ℕ)) → ((p : List ℕ) → List·Memᴰ p ps → Ascending p) → map sort ps ≡ ps
-      all-sorted [] h = refl
-      all-sorted (p ∷ ps) h = λ i. sort-sorted p (h p (List·Memᴰ·head refl)) i ∷ all-sorted ps (λ q m. h q (List·Memᴰ·tail m)) i
 
-not-large : (n : ℕ) (p : List ℕ) → tooLarge n p ≡ false → {v : ℕ} → List·Memᴰ v p → v < n
+-- vertices that are not too large are below n
+pub not-large : (n : ℕ) (p : List ℕ) → tooLarge n p ≡ false → {v : ℕ} → List·Memᴰ v p → v < n
 unfolding tooLarge
 not-large n [] h m = absurd (List·Memᴰ·not-nil m)
 not-large n (x ∷ p) h m =
     let a = or-false (leb n x) (tooLarge n p) h in
     ⊎-elim (λ e. omega (arith, leb-false n x (a .0))) (not-large n p (a .1)) (List·Memᴰ·cases-cons m)
 
-all-below : (n : ℕ) (p : List ℕ) → ((v : ℕ) → List·Memᴰ v p → v < n) → tooLarge n p ≡ false
+pub all-below : (n : ℕ) (p : List ℕ) → ((v : ℕ) → List·Memᴰ v p → v < n) → tooLarge n p ≡ false
 unfolding tooLarge
 all-below n [] g = refl
 all-below n (x ∷ p) g = rw (lt-leb n x (g x (List·Memᴰ·head refl)), all-below n p (λ v m. g v (List·Memᴰ·tail m))) refl
 
-no-repeat : (p : List ℕ) → Once p → repeats p ≡ false
+pub no-repeat : (p : List ℕ) → Once p → repeats p ≡ false
 unfolding repeats
 no-repeat [] o = refl
 no-repeat (v ∷ p) o = rw (fails (among-says v p) (o .0), no-repeat p (o .1)) refl
@@ -85,7 +87,8 @@ large-sort n p h = all-below n (sort p) (λ v m. not-large n p h (sort-mem p m))
 repeats-sort : (p : List ℕ) → repeats p ≡ false → repeats (sort p) ≡ false
 repeats-sort p h = no-repeat (sort p) (sort-once p (once-of p h))
 
-no-offence : (n k : ℕ) (ps : List (List ℕ)) → ((p : List ℕ) → List·Memᴰ p ps → (tooLarge n p ≡ false) × (repeats p ≡ false)) → offence n k ps ≡ Done
+-- pentachorons of which none offends
+pub no-offence : (n k : ℕ) (ps : List (List ℕ)) → ((p : List ℕ) → List·Memᴰ p ps → (tooLarge n p ≡ false) × (repeats p ≡ false)) → offence n k ps ≡ Done
 unfolding offence
 no-offence n k [] h = refl
 no-offence n k (p ∷ ps) h =

@@ -8,4 +8,6 @@ pub mod FaceNumbers
 pub mod FaceLists
 pub mod Whole
 pub mod Laws
+pub mod Rises
+pub mod BuiltComplex
 pub mod Pushing

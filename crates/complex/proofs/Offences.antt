@@ -1,5 +1,5 @@
 -- The checks of the builder: their turns, and what a list that passed them is like. Assumes nothing.
-use Prim.Native.Nat.{ℕ, suc, _+_, _*_, _-_, _/_, _%_, _<_}
+use Prim.Native.Nat.{ℕ, suc, _+_, _*_, _-_, _/_, _%_, _<_, _≤_}
 use mathlib.Core.Path.{_≡_, refl, ap, _∙_}
 use mathlib.Core.Bool.{Bool, true, false, not, cond, _||_}
 use mathlib.Core.List.{List, [], _∷_, List·Memᴰ, List·Memᴰ·cases-cons, List·Memᴰ·not-nil}
@@ -58,15 +58,34 @@ unfolding repeats
 once-of [] h = tt
 once-of (v ∷ p) h = let a = or-false (among v p) (repeats p) h in (denied (among-says v p) (a .0), once-of p (a .1))
 
-pub passed : (n : ℕ) (given : List ℕ) (l : Lists) → checkOf n given (roomsOf l) ≡ Done → Buildable given l
-unfolding checkOf isShort roomsOf
-passed n given l h =
-    let P = length given / 5 in
+-- the checks let a call pass where each of them does
+pub check-done : (n : ℕ) (given : List ℕ) (r : Rooms) → checkOf n given r ≡ Done
+    → ((eqb n 0 || ltb 4096 n) ≡ false) × ((not (eqb (length given % 5) 0) || ltb 40960 (length given)) ≡ false) × (isShort (length given / 5) r ≡ false) × (offence n 0 (pentachorons given) ≡ Done)
+unfolding checkOf
+check-done n given r h =
     let a = cond-done (eqb n 0 || ltb 4096 n) VertexCount _ h in
     let b = cond-done (not (eqb (length given % 5) 0) || ltb 40960 (length given)) ListLength _ (a .1) in
-    let c = cond-done _ ShortRoom _ (b .1) in
-    let d = or-false (not (eqb (length given % 5) 0)) (ltb 40960 (length given)) (b .0) in
-    let s9 = or-false _ (ltb (length (l .edgeToPentsStarts)) (10 * P + 1)) (c .0) in
+    let c = cond-done (isShort (length given / 5) r) ShortRoom _ (b .1) in
+    (a .0, b .0, c .0, c .1)
+
+pub done-check : (n : ℕ) (given : List ℕ) (r : Rooms) → (eqb n 0 || ltb 4096 n) ≡ false → (not (eqb (length given % 5) 0) || ltb 40960 (length given)) ≡ false
+    → isShort (length given / 5) r ≡ false → offence n 0 (pentachorons given) ≡ Done → checkOf n given r ≡ Done
+unfolding checkOf
+done-check n given r a b c d = rw (a, b, c) d
+
+-- a list is whole and short enough where its length passes
+pub length-passed : (m : ℕ) → (not (eqb (m % 5) 0) || ltb 40960 m) ≡ false → (m % 5 ≡ 0) × (m ≤ 40960)
+length-passed m h =
+    let d = or-false (not (eqb (m % 5) 0)) (ltb 40960 m) h in
+    (eqb-true (m % 5) 0 (not-false (eqb (m % 5) 0) (d .0)), ltb-false 40960 m (d .1))
+
+pub passed : (n : ℕ) (given : List ℕ) (l : Lists) → checkOf n given (roomsOf l) ≡ Done → Buildable given l
+unfolding isShort roomsOf
+passed n given l h =
+    let P = length given / 5 in
+    let c = check-done n given (roomsOf l) h in
+    let d = length-passed (length given) (c .1) in
+    let s9 = or-false _ (ltb (length (l .edgeToPentsStarts)) (10 * P + 1)) (c .2) in
     let s8 = or-false _ (ltb (length (l .edgeToPents)) (10 * P)) (s9 .0) in
     let s7 = or-false _ (ltb (length (l .edgeToTrisStarts)) (10 * P + 1)) (s8 .0) in
     let s6 = or-false _ (ltb (length (l .edgeToTris)) (30 * P)) (s7 .0) in
@@ -75,11 +94,11 @@ passed n given l h =
     let s3 = or-false _ (ltb (length (l .tets)) (20 * P)) (s4 .0) in
     let s2 = or-false _ (ltb (length (l .triangles)) (30 * P)) (s3 .0) in
     let s1 = or-false (ltb (length (l .pents)) (5 * P)) (ltb (length (l .edges)) (20 * P)) (s2 .0) in
-    let whole : length given % 5 ≡ 0 = eqb-true (length given % 5) 0 (not-false (eqb (length given % 5) 0) (d .0)) in
+    let whole = d .0 in
     record {
       whole = whole;
-      few = ltb-false 40960 (length given) (d .1);
-      once = λ p m. once-of p (offence-done n 0 (pentachorons given) (c .1) p m .1);
+      few = d .1;
+      once = λ p m. once-of p (offence-done n 0 (pentachorons given) (c .3) p m .1);
       pents-room = omega (arith, whole, ltb-false (length (l .pents)) (5 * P) (s1 .0));
       edges-room = omega (arith, whole, ltb-false (length (l .edges)) (20 * P) (s1 .1));
       triangles-room = omega (arith, whole, ltb-false (length (l .triangles)) (30 * P) (s2 .1));
@@ -95,9 +114,6 @@ passed n given l h =
 -- a list of the same length passes too, where its pentachorons do
 pub check-same : (n : ℕ) (given xs : List ℕ) (r : Rooms) → length xs ≡ length given → checkOf n given r ≡ Done
     → (offence n 0 (pentachorons given) ≡ Done → offence n 0 (pentachorons xs) ≡ Done) → checkOf n xs r ≡ Done
-unfolding checkOf
 check-same n given xs r e h f =
-    let a = cond-done (eqb n 0 || ltb 4096 n) VertexCount _ h in
-    let b = cond-done (not (eqb (length given % 5) 0) || ltb 40960 (length given)) ListLength _ (a .1) in
-    let c = cond-done (isShort (length given / 5) r) ShortRoom _ (b .1) in
-    rw (a .0) (rw e (rw (b .0, c .0) (rw e at (f (c .1)))))
+    let c = check-done n given r h in
+    done-check n xs r (c .0) (rw e (c .1)) (rw e (c .2)) (f (c .3))

@@ -1,8 +1,8 @@
 -- The check behind refusal 7: when counts and lists are those of a built complex, and what the check answers and leaves. Definitions only.
 use Prim.Native.Nat.{ℕ, _+_, _*_}
 use mathlib.Core.Path.{_≡_}
-use mathlib.Core.Bool.{Bool, false, not, cond, _&&_, _||_}
-use mathlib.Core.List.{List, map}
+use mathlib.Core.Bool.{Bool, true, false, not, cond, _&&_, _||_}
+use mathlib.Core.List.{List, [], _∷_, map}
 use lib.Dec.{eqb, ltb, leb}
 use lib.ListN.{length, take}
 use Rattle.refusals.specs.declared.Refusal.the-variants.{NotBuilt, ShortRoom}
@@ -67,6 +67,17 @@ unfoldable pub isBuilt : Counts → Lists → Bool
 isBuilt c l = leb (5 * c .pentachorons) (length (l .pents)) && answers (answerFor c l) c && beginAll (written (sortedPents (givenOf c l))) l
 
 -- ---- the parts of the check
+
+-- each vertex is below the next, and the last below n
+unfoldable pub rises : ℕ → List ℕ → Bool
+rises n [] = true
+rises n (v ∷ []) = ltb v n
+rises n (v ∷ w ∷ p) = ltb v w && rises n (w ∷ p)
+
+-- so it is in every pentachoron
+unfoldable pub allRise : ℕ → List (List ℕ) → Bool
+allRise n [] = true
+allRise n (p ∷ ps) = rises n p && allRise n ps
 
 -- a list begins with the faces of a kind, and n is their count
 unfoldable pub hasFaces : Face → List (List ℕ) → ℕ → List ℕ → Bool

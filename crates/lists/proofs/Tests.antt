@@ -15,6 +15,11 @@ says : {P : Type 0} (b : Bool) → (T b → P) → (T (not b) → P → ⊥) →
 says true f g = pass (f tt)
 says false f g = fail (g tt)
 
+-- a test that passes just where P holds
+pub says-by : {P : Type 0} (b : Bool) → (b ≡ true → P) → (P → b ≡ true) → Says P b
+says-by true f g = pass (f refl)
+says-by false f g = fail (λ p. let e = g p in let z : _≡_ {A = ℕ} 0 1 = cc in omega arith)
+
 -- ---- the tests of numbers
 
 pub eqb-says : (m n : ℕ) → Says (m ≡ n) (eqb m n)
@@ -48,6 +53,11 @@ pub or-says : {P Q R : Type 0} {a b : Bool} → (P → R) → (Q → R) → (R �
 or-says f g h (pass p) q = pass (f p)
 or-says f g h (fail n) (pass q) = pass (g q)
 or-says f g h (fail n) (fail m) = fail (λ r. ⊎-elim n m (h r))
+
+-- both of two tests pass
+pub and-true : (a b : Bool) → (a && b) ≡ true → (a ≡ true) × (b ≡ true)
+and-true true b e = (refl, e)
+and-true false b e = absurd (let z : _≡_ {A = ℕ} 0 1 = cc in omega arith)
 
 -- ---- what follows from a test
 
