@@ -8,12 +8,12 @@ use lib.ListN.{length, take}
 use Rattle.refusals.specs.declared.Refusal.the-variants.{NotBuilt, ShortRoom}
 use Rattle.refusals.specs.declared.Outcome.{Outcome}
 use Rattle.refusals.specs.declared.Outcome.the-variants as Outcome
-use Rattle.lists.specs.Rows.{flat, starts, over, begins}
+use Rattle.lists.specs.Rows.{flat, rows, starts, over, begins}
 use Rattle.complex.specs.declared.Counts.{Counts}
 use Rattle.complex.specs.declared.Built.{Built}
 use Rattle.complex.specs.declared.Built.the-variants.{Done, Refused}
 use Rattle.complex.specs.declared.numbering.Face.{Face}
-use Rattle.complex.specs.declared.numbering.Face.the-variants.{Edge, Triangle}
+use Rattle.complex.specs.declared.numbering.Face.the-variants.{Edge, Triangle, Tet}
 use Rattle.complex.specs.declared.checks.Rooms.{Rooms}
 use Rattle.complex.specs.Complex.{faces, holding, numbersOf}
 use Rattle.complex.specs.Builder.{sortedPents, checkOf, builtOf, Lists, written}
@@ -79,9 +79,19 @@ unfoldable pub allRise : ℕ → List (List ℕ) → Bool
 allRise n [] = true
 allRise n (p ∷ ps) = rises n p && allRise n ps
 
+-- there is a sorted pentachoron list that the builder takes
+unfoldable pub hasPents : Counts → List ℕ → Bool
+hasPents c pents =
+    not (eqb (c .vertices) 0) && leb (c .vertices) 4096 && leb (c .pentachorons) 8192 && leb (5 * c .pentachorons) (length pents)
+    && allRise (c .vertices) (rows 5 (c .pentachorons) pents)
+
 -- a list begins with the faces of a kind, and n is their count
 unfoldable pub hasFaces : Face → List (List ℕ) → ℕ → List ℕ → Bool
 hasFaces f ps n list = eqb n (length (faces f ps)) && begins (flat (faces f ps)) list
+
+-- so do the three lists of faces
+unfoldable pub hasAllFaces : Counts → List (List ℕ) → List ℕ → List ℕ → List ℕ → Bool
+hasAllFaces c ps es ts ks = hasFaces Tet ps (c .tets) ks && hasFaces Edge ps (c .edges) es && hasFaces Triangle ps (c .triangles) ts
 
 -- items and starts begin with the numbers of the rows in which each key lies
 unfoldable pub holds : List (List ℕ) → List (List ℕ) → List ℕ → List ℕ → Bool

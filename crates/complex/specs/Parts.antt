@@ -1,13 +1,15 @@
 -- What the parts of the builder ask and leave. Definitions only.
 use Prim.Native.Nat.{ℕ, _+_, _*_, _/_, _%_, _≤_, _<_}
 use mathlib.Core.Path.{_≡_}
+use mathlib.Core.Bool.{true}
 use mathlib.Core.List.{List, [], _∷_, map, List·Memᴰ}
 use lib.ListN.{length, getD}
 use Rattle.lists.specs.Lists.{Once}
 use Rattle.lists.specs.Keys.{find}
-use Rattle.lists.specs.Rows.{flat, rows, over}
+use Rattle.lists.specs.Rows.{flat, rows, over, begins}
 use Rattle.lists.specs.Groups.{Below}
 use Rattle.complex.specs.declared.numbering.Face.{Face}
+use Rattle.complex.specs.declared.numbering.Face.the-variants.{Edge, Triangle}
 use Rattle.complex.specs.Complex.{widthOf, countOf, metFaces, faces, numbersOf}
 use Rattle.complex.specs.Builder.{Lists, pentachorons}
 
@@ -105,3 +107,17 @@ pub record Buildable (given : List ℕ) (l : Lists) : Type 0 where
   pub et-starts-room : 2 * length given < length (l .edgeToTrisStarts)
   pub ep-room : 2 * length given ≤ length (l .edgeToPents)
   pub ep-starts-room : 2 * length given < length (l .edgeToPentsStarts)
+
+-- ---- the check
+
+-- whole pentachorons, and room for ten numbers of each
+pub record Scratch (pents edges tris : ℕ) : Type 0 where
+  pub whole : pents % 5 ≡ 0
+  pub few : pents ≤ 40960
+  pub edges-room : 2 * pents ≤ edges
+  pub tris-room : 2 * pents ≤ tris
+
+-- two lists begin with the edge numbers and the triangle numbers of pentachorons
+pub record Noted (ps : List (List ℕ)) (pe pt : List ℕ) : Type 0 where
+  pub edges : begins (numbersOf Edge ps) pe ≡ true
+  pub triangles : begins (numbersOf Triangle ps) pt ≡ true

@@ -1,5 +1,6 @@
 -- Rows in flat lists: what is written flat is read back, and what a list with room holds. Assumes nothing.
 use mathlib.Core.Path.{_≡_, refl, sym, ap, _∙_}
+use mathlib.Core.Bool.{true}
 use mathlib.Core.List.{List, [], _∷_, _++_, map, append-assoc, append-nil, List·Memᴰ·head, List·Memᴰ·tail, List·Memᴰ·cases-cons, List·Memᴰ·not-nil}
 use mathlib.Core.Logic.{⊎-elim}
 use Prim.Native.Nat.{ℕ, zero, suc, _+_, _*_, _-_, _≤_, _<_}
@@ -9,7 +10,7 @@ use lib.ListN.{length, getD, take, drop, length-append, length-drop, take-append
 use lib.Seq.{drop-drop, take-add, take-at, drop-at, length-take-le, take-all, take-length, slice, take-append-add, take-append-seam, drop-append-seam}
 use Rattle.lists.specs.Lists.{gather}
 use Rattle.lists.specs.Rows.{flat, rows, Wide, startsFrom, starts, over, begins}
-use Rattle.lists.proofs.Tests.{Says, pass, fail, eqb-says, and-says}
+use Rattle.lists.proofs.Tests.{Says, pass, fail, eqb-says, and-says, passes}
 
 -- ---- `rows`
 
@@ -186,6 +187,10 @@ begins-long (v ∷ new) (x ∷ xs) e = let l = begins-long new xs cc in omega ar
 pub over-begins : (new xs : List ℕ) → take (length new) xs ≡ new → over new xs ≡ xs
 unfolding over
 over-begins new xs e = ap (λ (l : List ℕ). l ++ drop (length new) xs) (sym e) ∙ take-append-drop (length new) xs
+
+-- what is written over a list begins it
+pub begins-over : (new old xs : List ℕ) → xs ≡ over new old → begins new xs ≡ true
+begins-over new old xs e = passes (begins-says new xs) (ap (take (length new)) e ∙ over-take new old (length new) refl)
 
 -- ---- parts
 
