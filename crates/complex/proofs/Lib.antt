@@ -7,4 +7,5 @@ pub mod Lying
 pub mod FaceNumbers
 pub mod Whole
 pub mod Laws
+pub mod Holdings
 pub mod Pushing

@@ -1,4 +1,4 @@
--- What the parts of the builder ask and leave. Definitions only.
+-- What the parts of the builder and of the check ask and leave. Definitions only.
 use Prim.Native.Nat.{ℕ, _+_, _*_, _/_, _%_, _≤_, _<_}
 use mathlib.Core.Path.{_≡_}
 use mathlib.Core.List.{List, [], _∷_, map, List·Memᴰ}
@@ -8,7 +8,8 @@ use Rattle.lists.specs.Keys.{find}
 use Rattle.lists.specs.Rows.{flat, rows, over}
 use Rattle.lists.specs.Groups.{Below}
 use Rattle.complex.specs.declared.numbering.Face.{Face}
-use Rattle.complex.specs.Complex.{widthOf, countOf, metFaces, faces, numbersOf}
+use Rattle.complex.specs.declared.holding.Shape.{Shape}
+use Rattle.complex.specs.Complex.{widthOf, countOf, metFaces, faces, holding, numbersOf}
 use Rattle.complex.specs.Builder.{Lists, pentachorons}
 
 -- there is room for the faces of P pentachorons: among the rows, the links of the chains and the numbers
@@ -101,3 +102,11 @@ pub record Buildable (given : List ℕ) (l : Lists) : Type 0 where
   pub et-starts-room : 2 * length given < length (l .edgeToTrisStarts)
   pub ep-room : 2 * length given ≤ length (l .edgeToPents)
   pub ep-starts-room : 2 * length given < length (l .edgeToPentsStarts)
+
+-- ---- the check
+
+-- keys and rows lie in their lists, and the total is how many rows the keys lie in, one key after the other
+pub record Holdable (keys : List ℕ) (k : Shape) (list : List ℕ) (s : Shape) (total : ℕ) : Type 0 where
+  pub keys-room : k .width * k .count ≤ length keys
+  pub rows-room : s .width * s .count ≤ length list
+  pub all : total ≡ length (flat (map (holding (rows (s .width) (s .count) list)) (rows (k .width) (k .count) keys)))

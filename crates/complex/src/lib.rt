@@ -2,6 +2,7 @@
 mod adjacency;
 mod builder;
 mod checks;
+mod holding;
 mod numbering;
 mod sorting;
 

@@ -181,6 +181,9 @@ part-tail s k = take-all (length s - k) (drop k s) (rw length-drop (omega arith)
 pub part-row : (w q : ℕ) (xs : List ℕ) → take (w * q + w - w * q) (drop (w * q) xs) ≡ take w (drop (w * q) xs)
 part-row w q xs = let e : w * q + w - w * q ≡ w = omega arith in rw e refl
 
+pub row-part : (w n : ℕ) (xs : List ℕ) (q : ℕ) → q < n → getD (rows w n xs) q [] ≡ take (w * q + w - w * q) (drop (w * q) xs)
+row-part w n xs q h = rows-at w n xs q h ∙ sym (part-row w q xs)
+
 pub length-part : (w q n : ℕ) (xs : List ℕ) → q < n → w * n ≤ length xs → length (take w (drop (w * q) xs)) ≡ w
 length-part w q n xs h r = length-take-le w (drop (w * q) xs) (omega (arith, row-below w q n h, length-drop (w * q) xs))
 
