@@ -4,7 +4,7 @@ use mathlib.Core.Logic.{_⊎_, inl, inr, ⊎-elim}
 use mathlib.Core.Bool.{Bool, true, false, not, _&&_, _||_}
 use Prim.Native.Nat.{ℕ, _≤_, _<_}
 use native.Mathlib.Omega.{arith}
-use lib.Dec.{T, eqb, ltb, eqb→eq, eqb-refl, T-not, ltb→lt, lt→ltb}
+use lib.Dec.{T, eqb, ltb, leb, eqb→eq, eqb-refl, T-not, ltb→lt, lt→ltb, leb→le, le→leb}
 
 -- P where the test passes, not P where it fails
 pub data Says (P : Type 0) : Bool → Type 0 where
@@ -22,6 +22,9 @@ eqb-says m n = says (eqb m n) (eqb→eq m n) (λ t e. T-not (eqb m n) t (subst (
 
 pub ltb-says : (m n : ℕ) → Says (m < n) (ltb m n)
 ltb-says m n = says (ltb m n) (ltb→lt m n) (λ t h. T-not (ltb m n) t (lt→ltb m n h))
+
+pub leb-says : (m n : ℕ) → Says (m ≤ n) (leb m n)
+leb-says m n = says (leb m n) (leb→le m n) (λ t h. T-not (leb m n) t (le→leb m n h))
 
 pub lt-or-ge : (m n : ℕ) → (m < n) ⊎ (n ≤ m)
 lt-or-ge m n = go (ltb-says m n)
