@@ -1,3 +1,10 @@
+-- `complex::holding::part_lies` meets its contract. Assumes nothing.
+use Prim.Native.Nat.{_+_}
+use mathlib.Core.Path.{refl}
+use native.Mathlib.Omega.{arith}
+use lib.ListN.{length, getD}
+use borrow.Author.Tests.{le-leb, lt-leb}
+use Rattle.complex.specs.Check.{partLies}
 use borrow.Author.Needs.{needs}
 use Rattle.complex.proofs.holding.part_lies.Statement.{statement}
 use Rattle.complex.proofs.holding.part_lies.Tie as tie
@@ -5,61 +12,56 @@ use Rattle.complex.proofs.holding.part_lies.Reads as reads
 use Rattle.complex.proofs.holding.part_lies.Lts as lts
 use Rattle.complex.proofs.holding.items_lie.Reads as items-lie-reads
 
--- src/holding.rt:64:16
 add-next : tie.Need-add-next
 add-next c = search needs
 
--- src/holding.rt:65:16
 mul-from : tie.Need-mul-from
 mul-from c = search needs
 
--- src/holding.rt:65:16
 shared-slice-read-from : tie.Need-shared-slice-read-from
 shared-slice-read-from c = search needs
 
--- src/holding.rt:65:16
 cast-from : tie.Need-cast-from
-cast-from c = ?
+cast-from c = omega (arith, c .shared-slice-known5 .given (c .before .before .before .before .before .args .j))
 
--- src/holding.rt:66:14
 mul-to : tie.Need-mul-to
 mul-to c = search needs
 
--- src/holding.rt:66:14
 shared-slice-read-to : tie.Need-shared-slice-read-to
 shared-slice-read-to c = search needs
 
--- src/holding.rt:66:14
 cast-to : tie.Need-cast-to
-cast-to c = ?
+cast-to c = omega (arith, c .shared-slice-known6 .given (c .before .before .before .before .before .before .args .j + 1))
 
--- src/holding.rt:68:9
 returns : tie.Need-returns
-returns c = ?
+unfolding partLies
+returns c =
+    let a = c .before .before .before .before .before .before .before .args in
+    rw (lt-leb (getD (a .starts .now) (a .j) 0) (getD (a .starts .now) (a .j + 1) 0) (omega arith)) refl
 
--- src/holding.rt:71:9
 returns-2 : tie.Need-returns-2
-returns-2 c = ?
+unfolding partLies
+returns-2 c =
+    let a = c .before .before .before .before .before .before .before .before .args in
+    rw (le-leb (getD (a .starts .now) (a .j) 0) (getD (a .starts .now) (a .j + 1) 0) (omega arith), lt-leb (getD (a .starts .now) (a .j + 1) 0) (length (a .items .now)) (omega arith)) refl
 
--- src/holding.rt:73:33
 mul-items-lie : tie.Need-mul-items-lie
 mul-items-lie c = search needs
 
--- src/holding.rt:73:33
 part-items-lie-start : tie.Need-part-items-lie-start
 part-items-lie-start c = search needs
 
--- src/holding.rt:73:33
 part-items-lie-end : tie.Need-part-items-lie-end
 part-items-lie-end c = search needs
 
--- src/holding.rt:73:5
 items-lie-requires : tie.Need-items-lie-requires
 items-lie-requires c κs = search needs
 
--- src/holding.rt:60:1
 returns-3 : tie.Need-returns-3
-returns-3 c = ?
+unfolding partLies
+returns-3 c =
+    let a = c .before .before .before .before .before .before .before .before .before .before .args in
+    rw (le-leb (getD (a .starts .now) (a .j) 0) (getD (a .starts .now) (a .j + 1) 0) (omega arith), le-leb (getD (a .starts .now) (a .j + 1) 0) (length (a .items .now)) (omega arith)) (c .items-lie .ensures)
 
 pub part-lies-spec : {M : Type 1} → statement M
 part-lies-spec =
