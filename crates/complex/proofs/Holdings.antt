@@ -94,12 +94,12 @@ part-says rs s items ss j =
     (and-says (λ a b. (a, b)) (λ p. p .0) (λ p. p .1) (leb-says (getD ss j 0) (getD ss (j + 1) 0)) (leb-says (getD ss (j + 1) 0) (length items)))
     (lying-says rs s 0 (part ss items j))
 
--- what the check asks of items and starts: the parts lie, and their total is that of the lists
-pub record Parts (rs keys : List (List ℕ)) (items ss : List ℕ) : Type 0 where
-  pub long : length keys < length ss
+-- what the check asks of items and starts, at n keys: the parts lie, and their total is that of the lists
+pub record Parts (rs keys : List (List ℕ)) (n : ℕ) (items ss : List ℕ) : Type 0 where
+  pub long : n < length ss
   pub first : getD ss 0 0 ≡ 0
-  pub parts : (j : ℕ) → j < length keys → partLies rs (getD keys j []) items ss j ≡ true
-  pub last : getD ss (length keys) 0 ≡ length (flat (map (holding rs) keys))
+  pub parts : (j : ℕ) → j < n → partLies rs (getD keys j []) items ss j ≡ true
+  pub last : getD ss n 0 ≡ length (flat (map (holding rs) keys))
 
 module _ (rs keys : List (List ℕ)) (items ss : List ℕ) where
   all : List (List ℕ)
@@ -110,7 +110,7 @@ module _ (rs keys : List (List ℕ)) (items ss : List ℕ) where
   length-all = length-map keys (holding rs)
 
   -- ---- the parts are the lists of all rows
-  module _ (p : Parts rs keys items ss) where
+  module _ (p : Parts rs keys (length keys) items ss) where
     lies : (j : ℕ) → j < length keys → PartLies rs (getD keys j []) items ss j
     lies j h = said (part-says rs (getD keys j []) items ss j) (p .parts j h)
 
@@ -156,7 +156,7 @@ module _ (rs keys : List (List ℕ)) (items ss : List ℕ) where
         ∙ starts-row all j l ∙ getD-map (holding rs) keys j [] [] h in
         record { rise = r; room = omega (arith, f .1); lie = subst (AllLie rs (getD keys j []) 0) (sym e) (holding-all rs (getD keys j [])) }
 
-    parts-of : Parts rs keys items ss
+    parts-of : Parts rs keys (length keys) items ss
     unfolding all
     parts-of =
         record {
@@ -166,9 +166,11 @@ module _ (rs keys : List (List ℕ)) (items ss : List ℕ) where
           last = start-at (length keys) (omega arith) ∙ ap (λ (n : ℕ). getD (starts all) n 0) (sym length-all) ∙ starts-last all;
         }
 
-  pub holds-says : Says (Parts rs keys items ss) (holds rs keys items ss)
+  pub holds-says : (n : ℕ) → length keys ≡ n → Says (Parts rs keys n items ss) (holds rs keys items ss)
   unfolding holds all
-  holds-says = and-says parts-of items-begin starts-begin (begins-says (flat all) items) (begins-says (starts all) ss)
+  holds-says n e =
+      subst (λ (m : ℕ). Says (Parts rs keys m items ss) (holds rs keys items ss)) e
+      (and-says parts-of items-begin starts-begin (begins-says (flat all) items) (begins-says (starts all) ss))
 
 -- ---- how many rows the keys lie in
 

@@ -2,7 +2,7 @@
 use mathlib.Core.Path.{_≡_, refl, subst}
 use mathlib.Core.Logic.{_⊎_, inl, inr, ⊎-elim}
 use mathlib.Core.Bool.{Bool, true, false, not, _&&_, _||_}
-use Prim.Native.Nat.{ℕ, _≤_, _<_}
+use Prim.Native.Nat.{ℕ, _+_, _≤_, _<_}
 use native.Mathlib.Omega.{arith}
 use lib.Dec.{T, eqb, ltb, leb, eqb→eq, eqb-refl, T-not, ltb→lt, lt→ltb, leb→le, le→leb}
 
@@ -39,6 +39,10 @@ eq-or-ne m n = go (eqb-says m n)
     go : {b : Bool} → Says (m ≡ n) b → (m ≡ n) ⊎ (m ≡ n → ⊥)
     go (pass e) = inl e
     go (fail f) = inr f
+
+-- what holds below j and at j holds below j + 1
+pub below-next : (P : ℕ → Type 0) (j : ℕ) → ((i : ℕ) → i < j → P i) → P j → (i : ℕ) → i < j + 1 → P i
+below-next P j f p i h = ⊎-elim (f i) (λ g. let e : j ≡ i = omega arith in subst P e p) (lt-or-ge i j)
 
 -- ---- tests made of tests
 

@@ -1,90 +1,122 @@
+-- `complex::holding::is_holding` meets its contract. Assumes nothing.
+use Prim.Native.Nat.{ℕ, _+_, _-_, _≤_, _<_}
+use mathlib.Core.Path.{_≡_, sym, ap, _∙_}
+use mathlib.Core.Bool.{true, true≢false}
+use mathlib.Core.List.{List, []}
+use native.Mathlib.Omega.{arith}
+use lib.ListN.{length, getD}
+use borrow.Author.Needs.{needs}
+use borrow.Author.Tests.{not-true, not-false}
+use Rattle.lists.specs.Rows.{rows}
+use Rattle.lists.proofs.Tests.{fails, says-same, eqb-says, below-next}
+use Rattle.lists.proofs.Rows.{length-rows, row-below, row-part}
+use Rattle.complex.specs.Check.{partLies}
+use Rattle.complex.proofs.Holdings.{holds-says}
 use Rattle.complex.proofs.holding.is_holding.Statement.{statement}
 use Rattle.complex.proofs.holding.is_holding.Tie as tie
-use Rattle.complex.proofs.holding.is_holding.Reads as reads
-use Rattle.complex.proofs.holding.is_holding.Lts as lts
-use Rattle.complex.proofs.holding.part_lies.Reads as part-lies-reads
 
 abbrev Inv-loop : tie.InvT-loop
-Inv-loop keys list shape items starts total width count j₀ j = ?
+Inv-loop keys list shape items starts total width count j₀ j =
+    (j ≤ count) × ((i : ℕ) → i < j → partLies (rows (shape .width) (shape .count) list) (getD (rows width count keys) i []) items starts i ≡ true)
 
 abbrev μ-loop : tie.MeasureT-loop
-μ-loop keys list shape items starts total width count j₀ j = ?
+μ-loop keys list shape items starts total width count j₀ j = count - j
 
--- src/holding.rt:86:9
 returns : tie.Need-returns Inv-loop μ-loop
-returns c = ?
+returns c =
+    let a = c .before .before .before .before .before .args in
+    let ks = rows (a .key-shape .width) (a .key-shape .count) (a .keys .now) in
+    let rs = rows (a .shape .width) (a .shape .count) (a .list .now) in
+    let says = holds-says rs ks (a .items .now) (a .starts .now) (a .key-shape .count) (length-rows (a .key-shape .width) (a .key-shape .count) (a .keys .now)) in
+    sym (fails says (λ p. omega (arith, p .long)))
 
--- src/holding.rt:88:8
 shared-slice-read-if2 : tie.Need-shared-slice-read-if2 Inv-loop μ-loop
-shared-slice-read-if2 c = ?
+shared-slice-read-if2 c = search needs
 
--- src/holding.rt:89:9
 returns-2 : tie.Need-returns-2 Inv-loop μ-loop
-returns-2 c = ?
+returns-2 c =
+    let a = c .before .before .before .before .before .before .before .args in
+    let ks = rows (a .key-shape .width) (a .key-shape .count) (a .keys .now) in
+    let rs = rows (a .shape .width) (a .shape .count) (a .list .now) in
+    let says = holds-says rs ks (a .items .now) (a .starts .now) (a .key-shape .count) (length-rows (a .key-shape .width) (a .key-shape .count) (a .keys .now)) in
+    sym (fails says (λ p. omega (arith, p .first)))
 
--- src/holding.rt:92:5
 loop-holds : tie.Need-loop-holds Inv-loop μ-loop
-loop-holds c = ?
+loop-holds c = (omega arith, λ i h. absurd (omega arith))
 
--- src/holding.rt:93:20
 mul-from : tie.Need-mul-from Inv-loop μ-loop
-mul-from c = ?
+mul-from c =
+    let a = c .before .before .before .before .before .before .before .before .before .args in
+    omega (arith, c .before .before .before .before .before .before .before .before .before .pre .keys-room, row-below (a .key-shape .width) (c .before .loop .j) (a .key-shape .count) (omega arith))
 
--- src/holding.rt:94:18
 add-to : tie.Need-add-to Inv-loop μ-loop
-add-to c = ?
+add-to c =
+    let a = c .before .before .before .before .before .before .before .before .before .args in
+    omega (arith, c .before .before .before .before .before .before .before .before .before .pre .keys-room, row-below (a .key-shape .width) (c .before .loop .j) (a .key-shape .count) (omega arith))
 
--- src/holding.rt:95:23
 mul-part-lies : tie.Need-mul-part-lies Inv-loop μ-loop
-mul-part-lies c = ?
+mul-part-lies c =
+    let a = c .before .before .before .before .before .before .before .before .before .args in
+    omega (arith, c .before .before .before .before .before .before .before .before .before .pre .keys-room, row-below (a .key-shape .width) (c .before .loop .j) (a .key-shape .count) (omega arith))
 
--- src/holding.rt:95:23
 sub-part-lies : tie.Need-sub-part-lies Inv-loop μ-loop
-sub-part-lies c = ?
+sub-part-lies c = search needs
 
--- src/holding.rt:95:23
 part-part-lies-start : tie.Need-part-part-lies-start Inv-loop μ-loop
-part-part-lies-start c = ?
+part-part-lies-start c = search needs
 
--- src/holding.rt:95:23
 part-part-lies-end : tie.Need-part-part-lies-end Inv-loop μ-loop
-part-part-lies-end c = ?
+part-part-lies-end c =
+    let a = c .before .before .before .before .before .before .before .before .before .args in
+    omega (arith, c .before .before .before .before .before .before .before .before .before .pre .keys-room, row-below (a .key-shape .width) (c .before .loop .j) (a .key-shape .count) (omega arith))
 
--- src/holding.rt:95:13
 part-lies-requires : tie.Need-part-lies-requires Inv-loop μ-loop
-part-lies-requires c κs = ?
+part-lies-requires c κs = (c .before .before .before .before .before .before .before .before .before .before .pre .rows-room, omega arith)
 
--- src/holding.rt:96:13
 returns-3 : tie.Need-returns-3 Inv-loop μ-loop
-returns-3 c = ?
+returns-3 c =
+    let a = c .before .before .before .before .before .before .before .before .before .before .before .before .args in
+    let ks = rows (a .key-shape .width) (a .key-shape .count) (a .keys .now) in
+    let rs = rows (a .shape .width) (a .shape .count) (a .list .now) in
+    let says = holds-says rs ks (a .items .now) (a .starts .now) (a .key-shape .count) (length-rows (a .key-shape .width) (a .key-shape .count) (a .keys .now)) in
+    let l = c .before .before .before .before .loop in
+    let f = c .before .part-lies in
+    let key = ap (λ (s : List ℕ). partLies rs s (a .items .now) (a .starts .now) (l .j)) (row-part (a .key-shape .width) (a .key-shape .count) (a .keys .now) (l .j) (omega arith)) in
+    sym (fails says (λ p. true≢false (sym (p .parts (l .j) (omega arith)) ∙ key ∙ sym (f .ensures) ∙ not-true (f .result) (c .if3 .taken))))
 
--- src/holding.rt:98:9
 add-j : tie.Need-add-j Inv-loop μ-loop
-add-j c = ?
+add-j c = search needs
 
--- src/holding.rt:92:5
 loop-less : tie.Need-loop-less Inv-loop μ-loop
-loop-less c = ?
+loop-less c = search needs
 
--- src/holding.rt:92:5
 loop-again : tie.Need-loop-again Inv-loop μ-loop
-loop-again c = ?
+loop-again c =
+    let a = c .before .before .before .before .before .before .before .before .before .before .before .before .args in
+    let ks = rows (a .key-shape .width) (a .key-shape .count) (a .keys .now) in
+    let rs = rows (a .shape .width) (a .shape .count) (a .list .now) in
+    let l = c .before .before .before .before .loop in
+    let f = c .before .part-lies in
+    let key = ap (λ (s : List ℕ). partLies rs s (a .items .now) (a .starts .now) (l .j)) (row-part (a .key-shape .width) (a .key-shape .count) (a .keys .now) (l .j) (omega arith)) in
+    (omega arith, below-next (λ i. partLies rs (getD ks i []) (a .items .now) (a .starts .now) i ≡ true) (l .j) (l .inv .1) (key ∙ sym (f .ensures) ∙ not-false (f .result) (c .if3 .left)))
 
--- src/holding.rt:100:5
 mul-result : tie.Need-mul-result Inv-loop μ-loop
-mul-result c = ?
+mul-result c = search needs
 
--- src/holding.rt:100:5
 shared-slice-read-result : tie.Need-shared-slice-read-result Inv-loop μ-loop
-shared-slice-read-result c = ?
+shared-slice-read-result c = search needs
 
--- src/holding.rt:100:5
 cast-result : tie.Need-cast-result Inv-loop μ-loop
-cast-result c = ?
+cast-result c = omega (arith, c .shared-slice-known6 .given (c .before .before .before .before .before .before .before .before .before .before .args .key-shape .count))
 
--- src/holding.rt:78:1
 returns-4 : tie.Need-returns-4 Inv-loop μ-loop
-returns-4 c = ?
+returns-4 c =
+    let a = c .before .before .before .before .before .before .before .before .before .before .args in
+    let ks = rows (a .key-shape .width) (a .key-shape .count) (a .keys .now) in
+    let rs = rows (a .shape .width) (a .shape .count) (a .list .now) in
+    let says = holds-says rs ks (a .items .now) (a .starts .now) (a .key-shape .count) (length-rows (a .key-shape .width) (a .key-shape .count) (a .keys .now)) in
+    says-same (λ e. record { long = omega arith; first = c .before .before .before .if2 .left; parts = λ i h. c .before .before .loop .inv .1 i (omega arith); last = e ∙ c .before .before .before .before .before .before .before .before .before .before .pre .all }) (λ p. p .last ∙ sym (c .before .before .before .before .before .before .before .before .before .before .pre .all))
+    (eqb-says (getD (a .starts .now) (a .key-shape .count) 0) (a .total)) says
 
 pub is-holding-spec : {M : Type 1} → statement M
 is-holding-spec =

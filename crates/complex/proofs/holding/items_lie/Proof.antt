@@ -11,9 +11,6 @@ use Rattle.complex.specs.Check.{lying}
 use Rattle.complex.proofs.Holdings.{lying-turn}
 use Rattle.complex.proofs.holding.items_lie.Statement.{statement}
 use Rattle.complex.proofs.holding.items_lie.Tie as tie
-use Rattle.complex.proofs.holding.items_lie.Reads as reads
-use Rattle.complex.proofs.holding.items_lie.Lts as lts
-use Rattle.complex.proofs.holding.lies_in.Reads as lies-in-reads
 
 abbrev Inv-loop : tie.InvT-loop
 Inv-loop key list items width count low₀ i₀ low i = (i ≤ length items) × (lying (rows width count list) key 0 items ≡ lying (rows width count list) key low (drop i items))

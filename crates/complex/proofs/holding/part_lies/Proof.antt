@@ -8,9 +8,6 @@ use Rattle.complex.specs.Check.{partLies}
 use borrow.Author.Needs.{needs}
 use Rattle.complex.proofs.holding.part_lies.Statement.{statement}
 use Rattle.complex.proofs.holding.part_lies.Tie as tie
-use Rattle.complex.proofs.holding.part_lies.Reads as reads
-use Rattle.complex.proofs.holding.part_lies.Lts as lts
-use Rattle.complex.proofs.holding.items_lie.Reads as items-lie-reads
 
 add-next : tie.Need-add-next
 add-next c = search needs
