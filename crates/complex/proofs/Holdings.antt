@@ -9,18 +9,21 @@ use native.Mathlib.Numerals.{add-one}
 use lib.Dec.{leb, ltb}
 use lib.ListN.{length, getD, take, drop, length-map}
 use lib.Seq.{drop-cons, getD-take, take-take}
+use borrow.Author.Tests.{le-leb, lt-ltb}
 use Rattle.lists.specs.Lists.{gather, upto, combos, among, within, Within, Rising}
 use Rattle.lists.specs.Keys.{find}
-use Rattle.lists.specs.Rows.{flat, Wide, starts}
-use Rattle.lists.specs.Groups.{groups, Below}
+use Rattle.lists.specs.Rows.{flat, rows, Wide, starts, begins}
+use Rattle.lists.specs.Groups.{Below}
 use Rattle.lists.specs.GroupSteps.{order}
 use Rattle.lists.proofs.Tests.{Says, pass, leb-says, ltb-says, and-says, said, passes}
-use Rattle.lists.proofs.Elements.{getD-mem, getD-map, mem-gather, length-gather, mem-upto, map-upto, within-says, Sub, rising-sub}
+use Rattle.lists.proofs.Elements.{getD-mem, mem-gather, length-gather, length-upto, mem-upto, getD-table, map-upto, map-same, within-says, Sub, rising-sub}
 use Rattle.lists.proofs.Keys.{find-mem}
-use Rattle.lists.proofs.Rows.{length-starts, starts-first, starts-last, starts-row, starts-fit, begins-says, begins-long, slice-part, part, Splits, flat-parts, length-parts, starts-parts, flat-sub}
+use Rattle.lists.proofs.Rows.{length-rows, rowPart, row-part, length-starts, starts-first, starts-last, starts-row, starts-fit, begins-says, begins-long, slice-part, part, Splits, flat-parts, length-parts, starts-parts, flat-sub}
 use Rattle.lists.proofs.Grouped.{flat-groups, order-full}
+use Rattle.complex.specs.declared.holding.Shape.{Shape}
 use Rattle.complex.specs.Complex.{holding, edges, triangles, rowNumbers}
 use Rattle.complex.specs.Check.{lying, partLies, holds}
+use Rattle.complex.specs.Parts.{Holdable}
 use Rattle.complex.proofs.Lying.{Sorted, Keyed, mem-holding, holding-mem, groups-holding}
 use Rattle.complex.proofs.Laws.{holding-rising}
 use Rattle.complex.proofs.FaceNumbers.{keyed-triangles, keyed-edges, keyed-triangle-edges}
@@ -36,6 +39,14 @@ pub lying-turn : (rs : List (List ℕ)) (s : List ℕ) (lo : ℕ) (is : List ℕ
     ≡ (leb lo (getD is k 0) && ltb (getD is k 0) (length rs) && within s (getD rs (getD is k 0) []) && lying rs s (getD is k 0 + 1) (drop (k + 1) is))
 unfolding lying
 lying-turn rs s lo is k h = rw (drop-cons is k 0 h, add-one k) refl
+
+-- the turn at an item that is not below lo and is the number of one of n rows of w numbers
+pub lying-row : (w n : ℕ) (xs s : List ℕ) (lo : ℕ) (is : List ℕ) (k : ℕ) → k < length is → lo ≤ getD is k 0 → getD is k 0 < n
+    → lying (rows w n xs) s lo (drop k is)
+    ≡ (within s (rowPart w xs (getD is k 0)) && lying (rows w n xs) s (getD is k 0 + 1) (drop (k + 1) is))
+lying-row w n xs s lo is k h a b =
+    let i = getD is k 0 in
+    lying-turn (rows w n xs) s lo is k h ∙ rw (le-leb lo i a, length-rows w n xs, lt-ltb i n b, row-part w n xs i b) refl
 
 -- ---- numbers of rows in which a simplex lies
 
@@ -53,8 +64,7 @@ module _ (rs : List (List ℕ)) (s : List ℕ) where
   lying-says lo [] = pass (tt, λ i m. absurd (List·Memᴰ·not-nil m))
   lying-says lo (i ∷ is) =
       and-says
-      (λ p q.
-      (
+      (λ p q. (
         ((λ v m. omega (arith, q .1 v m .0)), q .0),
         λ v m. ⊎-elim (λ e. subst (Lies lo) (sym e) p) (λ k. let w = q .1 v k in (omega (arith, w .0, p .0), w .1, w .2)) (List·Memᴰ·cases-cons m),
       ))
@@ -94,83 +104,88 @@ part-says rs s items ss j =
     (and-says (λ a b. (a, b)) (λ p. p .0) (λ p. p .1) (leb-says (getD ss j 0) (getD ss (j + 1) 0)) (leb-says (getD ss (j + 1) 0) (length items)))
     (lying-says rs s 0 (part ss items j))
 
--- what the check asks of items and starts, at n keys: the parts lie, and their total is that of the lists
-pub record Parts (rs keys : List (List ℕ)) (n : ℕ) (items ss : List ℕ) : Type 0 where
+-- what the check tests of items and starts, at n keys: the parts lie, and have the total all together
+pub record Tested (rs : List (List ℕ)) (key : ℕ → List ℕ) (n total : ℕ) (items ss : List ℕ) : Type 0 where
   pub long : n < length ss
   pub first : getD ss 0 0 ≡ 0
-  pub parts : (j : ℕ) → j < n → partLies rs (getD keys j []) items ss j ≡ true
-  pub last : getD ss n 0 ≡ length (flat (map (holding rs) keys))
+  pub parts : (j : ℕ) → j < n → partLies rs (key j) items ss j ≡ true
+  pub last : getD ss n 0 ≡ total
 
-module _ (rs keys : List (List ℕ)) (items ss : List ℕ) where
+module _ (rs : List (List ℕ)) (key : ℕ → List ℕ) (n : ℕ) (items ss : List ℕ) where
   all : List (List ℕ)
-  all = map (holding rs) keys
+  all = map (λ j. holding rs (key j)) (upto n)
 
-  length-all : length all ≡ length keys
+  length-all : length all ≡ n
   unfolding all
-  length-all = length-map keys (holding rs)
+  length-all = length-map (upto n) (λ j. holding rs (key j)) ∙ length-upto n
 
   -- ---- the parts are the lists of all rows
-  module _ (p : Parts rs keys (length keys) items ss) where
-    lies : (j : ℕ) → j < length keys → PartLies rs (getD keys j []) items ss j
-    lies j h = said (part-says rs (getD keys j []) items ss j) (p .parts j h)
+  module _ (p : Tested rs key n (length (flat all)) items ss) where
+    lies : (j : ℕ) → j < n → PartLies rs (key j) items ss j
+    lies j h = said (part-says rs (key j) items ss j) (p .parts j h)
 
-    splits : Splits ss items (length keys)
+    splits : Splits ss items n
     splits = record { long = p .long; first = p .first; rise = λ j h. lies j h .rise; room = λ j h. lies j h .room }
 
-    parts-all : map (part ss items) (upto (length keys)) ≡ all
+    parts-all : map (part ss items) (upto n) ≡ all
     unfolding all
     parts-all =
-        let e = map-upto (holding rs) keys [] [] in
-        flat-sub (part ss items) (λ j. holding rs (getD keys j [])) (upto (length keys))
-        (λ j m. all-sub rs (getD keys j []) (part ss items j) (lies j (mem-upto (length keys) j m) .lie)) .1
-        (omega (arith, ap (λ (r : List (List ℕ)). length (flat r)) e, p .last, length-parts ss items (length keys) splits))
-        ∙ sym e
+        flat-sub (part ss items) (λ j. holding rs (key j)) (upto n) (λ j m. all-sub rs (key j) (part ss items j) (lies j (mem-upto n j m) .lie)) .1
+        (omega (arith, p .last, length-parts ss items n splits))
 
     items-begin : take (length (flat all)) items ≡ flat all
-    unfolding all
-    items-begin = ap (λ (n : ℕ). take n items) (sym (p .last)) ∙ sym (flat-parts ss items (length keys) splits) ∙ ap flat parts-all
+    items-begin = ap (λ (m : ℕ). take m items) (sym (p .last)) ∙ sym (flat-parts ss items n splits) ∙ ap flat parts-all
 
     starts-begin : take (length (starts all)) ss ≡ starts all
-    starts-begin =
-        ap (λ (n : ℕ). take n ss) (length-starts 0 all ∙ ap suc length-all) ∙ sym (starts-parts ss items (length keys) splits) ∙ ap starts parts-all
+    starts-begin = ap (λ (m : ℕ). take m ss) (length-starts 0 all ∙ ap suc length-all) ∙ sym (starts-parts ss items n splits) ∙ ap starts parts-all
 
   -- ---- the lists of all rows pass
   module _ (b : take (length (flat all)) items ≡ flat all) (d : take (length (starts all)) ss ≡ starts all) where
-    start-at : (t : ℕ) → t ≤ length keys → getD ss t 0 ≡ getD (starts all) t 0
+    start-at : (t : ℕ) → t ≤ n → getD ss t 0 ≡ getD (starts all) t 0
     start-at t h =
         sym (getD-take (length (starts all)) ss t 0 (omega (arith, length-starts 0 all, length-all))) ∙ ap (λ (l : List ℕ). getD l t 0) d
 
-    part-is : (j : ℕ) → j < length keys → PartLies rs (getD keys j []) items ss j
+    part-is : (j : ℕ) → j < n → PartLies rs (key j) items ss j
     unfolding all
     part-is j h =
         let l : j < length all = omega (arith, length-all) in
         let f = starts-fit all j l in
         let x : getD ss j 0 ≡ getD (starts all) j 0 = start-at j (omega arith) in
         let y : getD ss (j + 1) 0 ≡ getD (starts all) (suc j) 0 = rw (add-one j) (start-at (suc j) h) in
-        let n = begins-long (flat all) items b in
+        let m = begins-long (flat all) items b in
         let r : getD ss j 0 ≤ getD ss (j + 1) 0 = omega (arith, f .0) in
-        let e : part ss items j ≡ holding rs (getD keys j []) =
+        let e : part ss items j ≡ holding rs (key j) =
         sym (slice-part (getD ss j 0) (getD ss (j + 1) 0) items r (omega (arith, f .0, f .1)))
         ∙ ap (drop (getD ss j 0)) (sym (take-take (getD ss (j + 1) 0) (length (flat all)) items (omega (arith, f .1))) ∙ ap (take (getD ss (j + 1) 0)) b)
         ∙ (λ i. drop (x i) (take (y i) (flat all)))
-        ∙ starts-row all j l ∙ getD-map (holding rs) keys j [] [] h in
-        record { rise = r; room = omega (arith, f .1); lie = subst (AllLie rs (getD keys j []) 0) (sym e) (holding-all rs (getD keys j [])) }
+        ∙ starts-row all j l ∙ getD-table (λ i. holding rs (key i)) n j [] h in
+        record { rise = r; room = omega (arith, f .1); lie = subst (AllLie rs (key j) 0) (sym e) (holding-all rs (key j)) }
 
-    parts-of : Parts rs keys (length keys) items ss
-    unfolding all
-    parts-of =
+    tested : Tested rs key n (length (flat all)) items ss
+    tested =
         record {
           long = omega (arith, begins-long (starts all) ss d, length-starts 0 all, length-all);
           first = start-at 0 (omega arith) ∙ starts-first all;
-          parts = λ j h. passes (part-says rs (getD keys j []) items ss j) (part-is j h);
-          last = start-at (length keys) (omega arith) ∙ ap (λ (n : ℕ). getD (starts all) n 0) (sym length-all) ∙ starts-last all;
+          parts = λ j h. passes (part-says rs (key j) items ss j) (part-is j h);
+          last = start-at n (omega arith) ∙ ap (λ (t : ℕ). getD (starts all) t 0) (sym length-all) ∙ starts-last all;
         }
 
-  pub holds-says : (n : ℕ) → length keys ≡ n → Says (Parts rs keys n items ss) (holds rs keys items ss)
-  unfolding holds all
-  holds-says n e =
-      subst (λ (m : ℕ). Says (Parts rs keys m items ss) (holds rs keys items ss)) e
-      (and-says parts-of items-begin starts-begin (begins-says (flat all) items) (begins-says (starts all) ss))
+  parts-say : Says (Tested rs key n (length (flat all)) items ss) (begins (flat all) items && begins (starts all) ss)
+  parts-say = and-says tested items-begin starts-begin (begins-says (flat all) items) (begins-says (starts all) ss)
+
+-- the check of lists says that they are those of all rows
+pub holds-says : {keys list : List ℕ} {k s : Shape} {total : ℕ} → Holdable keys k list s total → (items ss : List ℕ)
+    → Says (Tested (rows (s .width) (s .count) list) (rowPart (k .width) keys) (k .count) total items ss)
+    (holds (rows (s .width) (s .count) list) (rows (k .width) (k .count) keys) items ss)
+unfolding holds all
+holds-says {keys} {list} {k} {s} h items ss =
+    let rs = rows (s .width) (s .count) list in
+    let e : map (holding rs) (rows (k .width) (k .count) keys) ≡ map (λ j. holding rs (rowPart (k .width) keys j)) (upto (k .count)) =
+    map-upto (holding rs) (rows (k .width) (k .count) keys) [] []
+    ∙ ap (λ (n : ℕ). map (λ j. holding rs (getD (rows (k .width) (k .count) keys) j [])) (upto n)) (length-rows (k .width) (k .count) keys)
+    ∙ map-same (λ j. holding rs (getD (rows (k .width) (k .count) keys) j [])) (λ j. holding rs (rowPart (k .width) keys j)) (upto (k .count))
+    (λ j m. ap (holding rs) (row-part (k .width) (k .count) keys j (mem-upto (k .count) j m))) in
+    rw (h .counted, e) (parts-say rs (rowPart (k .width) keys) (k .count) items ss)
 
 -- ---- how many rows the keys lie in
 

@@ -109,4 +109,4 @@ pub record Buildable (given : List ℕ) (l : Lists) : Type 0 where
 pub record Holdable (keys : List ℕ) (k : Shape) (list : List ℕ) (s : Shape) (total : ℕ) : Type 0 where
   pub keys-room : k .width * k .count ≤ length keys
   pub rows-room : s .width * s .count ≤ length list
-  pub all : total ≡ length (flat (map (holding (rows (s .width) (s .count) list)) (rows (k .width) (k .count) keys)))
+  pub counted : total ≡ length (flat (map (holding (rows (s .width) (s .count) list)) (rows (k .width) (k .count) keys)))

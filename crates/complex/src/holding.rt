@@ -57,7 +57,14 @@ fn items_lie(key: &[u32], list: &[u32], shape: Shape, items: &[u32]) -> bool
 }
 
 // The same of part j of the items, which goes from start j up to start j + 1.
-fn part_lies(key: &[u32], list: &[u32], shape: Shape, items: &[u32], starts: &[u32], j: usize) -> bool
+fn part_lies(
+    key: &[u32],
+    list: &[u32],
+    shape: Shape,
+    items: &[u32],
+    starts: &[u32],
+    j: usize,
+) -> bool
     requires { ⌜ (shape .width * shape .count ≤ length (now list)) × (j + 1 < length (now starts)) ⌝ }
     ensures { λ r. ⌜ r ≡ partLies (rows (shape .width) (shape .count) (now (list .entry))) (now (key .entry)) (now (items .entry)) (now (starts .entry)) j ⌝ }
 {
@@ -75,7 +82,15 @@ fn part_lies(key: &[u32], list: &[u32], shape: Shape, items: &[u32], starts: &[u
 
 // Whether items and starts begin with the numbers of the rows in which each key lies. `total` is how many these are: a part that
 // lies is no longer than it should be, so parts that have the total all together are whole.
-pub fn is_holding(keys: &[u32], key_shape: Shape, list: &[u32], shape: Shape, items: &[u32], starts: &[u32], total: usize) -> bool
+pub fn is_holding(
+    keys: &[u32],
+    key_shape: Shape,
+    list: &[u32],
+    shape: Shape,
+    items: &[u32],
+    starts: &[u32],
+    total: usize,
+) -> bool
     requires { ⌜ Holdable (now keys) «key_shape» (now list) shape total ⌝ }
     ensures { λ r. ⌜ r ≡ holds (rows (shape .width) (shape .count) (now (list .entry))) (rows («key_shape» .width) («key_shape» .count) (now (keys .entry)))
         (now (items .entry)) (now (starts .entry)) ⌝ }

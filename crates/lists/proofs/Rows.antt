@@ -205,7 +205,11 @@ part-tail s k = take-all (length s - k) (drop k s) (rw length-drop (omega arith)
 pub part-row : (w q : ℕ) (xs : List ℕ) → take (w * q + w - w * q) (drop (w * q) xs) ≡ take w (drop (w * q) xs)
 part-row w q xs = let e : w * q + w - w * q ≡ w = omega arith in rw e refl
 
-pub row-part : (w n : ℕ) (xs : List ℕ) (q : ℕ) → q < n → getD (rows w n xs) q [] ≡ take (w * q + w - w * q) (drop (w * q) xs)
+-- row q as a part that code takes
+abbrev pub rowPart : ℕ → List ℕ → ℕ → List ℕ
+rowPart w xs q = take (w * q + w - w * q) (drop (w * q) xs)
+
+pub row-part : (w n : ℕ) (xs : List ℕ) (q : ℕ) → q < n → getD (rows w n xs) q [] ≡ rowPart w xs q
 row-part w n xs q h = rows-at w n xs q h ∙ sym (part-row w q xs)
 
 pub length-part : (w q n : ℕ) (xs : List ℕ) → q < n → w * n ≤ length xs → length (take w (drop (w * q) xs)) ≡ w

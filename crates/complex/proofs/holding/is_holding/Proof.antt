@@ -1,15 +1,14 @@
 -- `complex::holding::is_holding` meets its contract. Assumes nothing.
-use Prim.Native.Nat.{ℕ, _+_, _-_, _≤_, _<_}
-use mathlib.Core.Path.{_≡_, sym, ap, _∙_}
+use Prim.Native.Nat.{ℕ, _-_, _≤_, _<_}
+use mathlib.Core.Path.{_≡_, sym, _∙_}
 use mathlib.Core.Bool.{true, true≢false}
-use mathlib.Core.List.{List, []}
 use native.Mathlib.Omega.{arith}
-use lib.ListN.{length, getD}
+use lib.ListN.{getD}
 use borrow.Author.Needs.{needs}
 use borrow.Author.Tests.{not-true, not-false}
 use Rattle.lists.specs.Rows.{rows}
 use Rattle.lists.proofs.Tests.{fails, says-same, eqb-says, below-next}
-use Rattle.lists.proofs.Rows.{length-rows, row-below, row-part}
+use Rattle.lists.proofs.Rows.{row-below, rowPart}
 use Rattle.complex.specs.Check.{partLies}
 use Rattle.complex.proofs.Holdings.{holds-says}
 use Rattle.complex.proofs.holding.is_holding.Statement.{statement}
@@ -17,7 +16,7 @@ use Rattle.complex.proofs.holding.is_holding.Tie as tie
 
 abbrev Inv-loop : tie.InvT-loop
 Inv-loop keys list shape items starts total width count j₀ j =
-    (j ≤ count) × ((i : ℕ) → i < j → partLies (rows (shape .width) (shape .count) list) (getD (rows width count keys) i []) items starts i ≡ true)
+    (j ≤ count) × ((i : ℕ) → i < j → partLies (rows (shape .width) (shape .count) list) (rowPart width keys i) items starts i ≡ true)
 
 abbrev μ-loop : tie.MeasureT-loop
 μ-loop keys list shape items starts total width count j₀ j = count - j
@@ -25,9 +24,7 @@ abbrev μ-loop : tie.MeasureT-loop
 returns : tie.Need-returns Inv-loop μ-loop
 returns c =
     let a = c .before .before .before .before .before .args in
-    let ks = rows (a .key-shape .width) (a .key-shape .count) (a .keys .now) in
-    let rs = rows (a .shape .width) (a .shape .count) (a .list .now) in
-    let says = holds-says rs ks (a .items .now) (a .starts .now) (a .key-shape .count) (length-rows (a .key-shape .width) (a .key-shape .count) (a .keys .now)) in
+    let says = holds-says (c .before .before .before .before .before .pre) (a .items .now) (a .starts .now) in
     sym (fails says (λ p. omega (arith, p .long)))
 
 shared-slice-read-if2 : tie.Need-shared-slice-read-if2 Inv-loop μ-loop
@@ -36,9 +33,7 @@ shared-slice-read-if2 c = search needs
 returns-2 : tie.Need-returns-2 Inv-loop μ-loop
 returns-2 c =
     let a = c .before .before .before .before .before .before .before .args in
-    let ks = rows (a .key-shape .width) (a .key-shape .count) (a .keys .now) in
-    let rs = rows (a .shape .width) (a .shape .count) (a .list .now) in
-    let says = holds-says rs ks (a .items .now) (a .starts .now) (a .key-shape .count) (length-rows (a .key-shape .width) (a .key-shape .count) (a .keys .now)) in
+    let says = holds-says (c .before .before .before .before .before .before .before .pre) (a .items .now) (a .starts .now) in
     sym (fails says (λ p. omega (arith, p .first)))
 
 loop-holds : tie.Need-loop-holds Inv-loop μ-loop
@@ -76,13 +71,9 @@ part-lies-requires c κs = (c .before .before .before .before .before .before .b
 returns-3 : tie.Need-returns-3 Inv-loop μ-loop
 returns-3 c =
     let a = c .before .before .before .before .before .before .before .before .before .before .before .before .args in
-    let ks = rows (a .key-shape .width) (a .key-shape .count) (a .keys .now) in
-    let rs = rows (a .shape .width) (a .shape .count) (a .list .now) in
-    let says = holds-says rs ks (a .items .now) (a .starts .now) (a .key-shape .count) (length-rows (a .key-shape .width) (a .key-shape .count) (a .keys .now)) in
-    let l = c .before .before .before .before .loop in
+    let says = holds-says (c .before .before .before .before .before .before .before .before .before .before .before .before .pre) (a .items .now) (a .starts .now) in
     let f = c .before .part-lies in
-    let key = ap (λ (s : List ℕ). partLies rs s (a .items .now) (a .starts .now) (l .j)) (row-part (a .key-shape .width) (a .key-shape .count) (a .keys .now) (l .j) (omega arith)) in
-    sym (fails says (λ p. true≢false (sym (p .parts (l .j) (omega arith)) ∙ key ∙ sym (f .ensures) ∙ not-true (f .result) (c .if3 .taken))))
+    sym (fails says (λ p. true≢false (sym (p .parts (c .before .before .before .before .loop .j) (omega arith)) ∙ sym (f .ensures) ∙ not-true (f .result) (c .if3 .taken))))
 
 add-j : tie.Need-add-j Inv-loop μ-loop
 add-j c = search needs
@@ -93,12 +84,12 @@ loop-less c = search needs
 loop-again : tie.Need-loop-again Inv-loop μ-loop
 loop-again c =
     let a = c .before .before .before .before .before .before .before .before .before .before .before .before .args in
-    let ks = rows (a .key-shape .width) (a .key-shape .count) (a .keys .now) in
-    let rs = rows (a .shape .width) (a .shape .count) (a .list .now) in
     let l = c .before .before .before .before .loop in
-    let f = c .before .part-lies in
-    let key = ap (λ (s : List ℕ). partLies rs s (a .items .now) (a .starts .now) (l .j)) (row-part (a .key-shape .width) (a .key-shape .count) (a .keys .now) (l .j) (omega arith)) in
-    (omega arith, below-next (λ i. partLies rs (getD ks i []) (a .items .now) (a .starts .now) i ≡ true) (l .j) (l .inv .1) (key ∙ sym (f .ensures) ∙ not-false (f .result) (c .if3 .left)))
+    let f = c .before .part-lies in (
+      omega arith,
+      below-next (λ i. partLies (rows (a .shape .width) (a .shape .count) (a .list .now)) (rowPart (a .key-shape .width) (a .keys .now) i) (a .items .now) (a .starts .now) i ≡ true)
+          (l .j) (l .inv .1) (sym (f .ensures) ∙ not-false (f .result) (c .if3 .left)),
+    )
 
 mul-result : tie.Need-mul-result Inv-loop μ-loop
 mul-result c = search needs
@@ -112,10 +103,8 @@ cast-result c = omega (arith, c .shared-slice-known6 .given (c .before .before .
 returns-4 : tie.Need-returns-4 Inv-loop μ-loop
 returns-4 c =
     let a = c .before .before .before .before .before .before .before .before .before .before .args in
-    let ks = rows (a .key-shape .width) (a .key-shape .count) (a .keys .now) in
-    let rs = rows (a .shape .width) (a .shape .count) (a .list .now) in
-    let says = holds-says rs ks (a .items .now) (a .starts .now) (a .key-shape .count) (length-rows (a .key-shape .width) (a .key-shape .count) (a .keys .now)) in
-    says-same (λ e. record { long = omega arith; first = c .before .before .before .if2 .left; parts = λ i h. c .before .before .loop .inv .1 i (omega arith); last = e ∙ c .before .before .before .before .before .before .before .before .before .before .pre .all }) (λ p. p .last ∙ sym (c .before .before .before .before .before .before .before .before .before .before .pre .all))
+    let says = holds-says (c .before .before .before .before .before .before .before .before .before .before .pre) (a .items .now) (a .starts .now) in
+    says-same (λ e. record { long = omega arith; first = c .before .before .before .if2 .left; parts = λ i h. c .before .before .loop .inv .1 i (omega arith); last = e }) (λ p. p .last)
     (eqb-says (getD (a .starts .now) (a .key-shape .count) 0) (a .total)) says
 
 pub is-holding-spec : {M : Type 1} → statement M

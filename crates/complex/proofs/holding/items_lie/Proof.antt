@@ -4,11 +4,11 @@ use mathlib.Core.Path.{_≡_, refl, sym, _∙_}
 use native.Mathlib.Omega.{arith}
 use lib.ListN.{length, getD, drop, drop-of-length-le}
 use borrow.Author.Needs.{needs}
-use borrow.Author.Tests.{not-true, not-false, lt-leb, le-leb, le-ltb, lt-ltb}
+use borrow.Author.Tests.{not-true, not-false, lt-leb, le-leb, le-ltb}
 use Rattle.lists.specs.Rows.{rows}
-use Rattle.lists.proofs.Rows.{length-rows, row-below, row-part}
+use Rattle.lists.proofs.Rows.{length-rows, row-below}
 use Rattle.complex.specs.Check.{lying}
-use Rattle.complex.proofs.Holdings.{lying-turn}
+use Rattle.complex.proofs.Holdings.{lying-turn, lying-row}
 use Rattle.complex.proofs.holding.items_lie.Statement.{statement}
 use Rattle.complex.proofs.holding.items_lie.Tie as tie
 
@@ -78,11 +78,9 @@ returns-3 : tie.Need-returns-3 Inv-loop μ-loop
 returns-3 c =
     let a = c .before .before .before .before .before .before .before .before .before .before .before .args in
     let l = c .before .before .before .before .before .before .before .loop in
-    let i = getD (a .items .now) (l .i) 0 in
-    let turn = lying-turn (rows (a .shape .width) (a .shape .count) (a .list .now)) (a .key .now) (l .low) (a .items .now) (l .i) (omega arith) in
     let f = c .before .lies-in in
-    sym (l .inv .1 ∙ turn ∙ rw (le-leb (l .low) i (omega arith), length-rows (a .shape .width) (a .shape .count) (a .list .now), lt-ltb i (a .shape .count) (omega arith),
-    row-part (a .shape .width) (a .shape .count) (a .list .now) i (omega arith), sym (f .ensures) ∙ not-true (f .result) (c .if3 .taken)) refl)
+    let turn = lying-row (a .shape .width) (a .shape .count) (a .list .now) (a .key .now) (l .low) (a .items .now) (l .i) (omega arith) (omega arith) (omega arith) in
+    sym (l .inv .1 ∙ turn ∙ rw (sym (f .ensures) ∙ not-true (f .result) (c .if3 .taken)) refl)
 
 add-low : tie.Need-add-low Inv-loop μ-loop
 add-low c = omega (arith, c .before .before .before .before .before .shared-slice-known4 .given (c .before .before .before .before .before .before .before .loop .i))
@@ -97,11 +95,9 @@ loop-again : tie.Need-loop-again Inv-loop μ-loop
 loop-again c =
     let a = c .before .before .before .before .before .before .before .before .before .before .before .args in
     let l = c .before .before .before .before .before .before .before .loop in
-    let i = getD (a .items .now) (l .i) 0 in
-    let turn = lying-turn (rows (a .shape .width) (a .shape .count) (a .list .now)) (a .key .now) (l .low) (a .items .now) (l .i) (omega arith) in
     let f = c .before .lies-in in
-    (omega arith, l .inv .1 ∙ turn ∙ rw (le-leb (l .low) i (omega arith), length-rows (a .shape .width) (a .shape .count) (a .list .now), lt-ltb i (a .shape .count) (omega arith),
-    row-part (a .shape .width) (a .shape .count) (a .list .now) i (omega arith), sym (f .ensures) ∙ not-false (f .result) (c .if3 .left)) refl)
+    let turn = lying-row (a .shape .width) (a .shape .count) (a .list .now) (a .key .now) (l .low) (a .items .now) (l .i) (omega arith) (omega arith) (omega arith) in
+    (omega arith, l .inv .1 ∙ turn ∙ rw (sym (f .ensures) ∙ not-false (f .result) (c .if3 .left)) refl)
 
 returns-4 : tie.Need-returns-4 Inv-loop μ-loop
 unfolding lying

@@ -2,10 +2,10 @@
 use Prim.Native.Nat.{_-_, _≤_}
 use mathlib.Core.Path.{_≡_, refl, sym, _∙_}
 use native.Mathlib.Omega.{arith}
-use lib.ListN.{length, getD, drop, drop-of-length-le}
+use lib.ListN.{length, drop, drop-of-length-le}
 use borrow.Author.Needs.{needs}
 use borrow.Author.Tests.{not-true, not-false}
-use Rattle.lists.specs.Lists.{among, within}
+use Rattle.lists.specs.Lists.{within}
 use Rattle.complex.proofs.Holdings.{within-turn}
 use Rattle.complex.proofs.holding.lies_in.Statement.{statement}
 use Rattle.complex.proofs.holding.lies_in.Tie as tie

@@ -3,9 +3,9 @@ use Prim.Native.Nat.{_+_}
 use mathlib.Core.Path.{refl}
 use native.Mathlib.Omega.{arith}
 use lib.ListN.{length, getD}
+use borrow.Author.Needs.{needs}
 use borrow.Author.Tests.{le-leb, lt-leb}
 use Rattle.complex.specs.Check.{partLies}
-use borrow.Author.Needs.{needs}
 use Rattle.complex.proofs.holding.part_lies.Statement.{statement}
 use Rattle.complex.proofs.holding.part_lies.Tie as tie
 
@@ -34,13 +34,17 @@ returns : tie.Need-returns
 unfolding partLies
 returns c =
     let a = c .before .before .before .before .before .before .before .args in
-    rw (lt-leb (getD (a .starts .now) (a .j) 0) (getD (a .starts .now) (a .j + 1) 0) (omega arith)) refl
+    let from = getD (a .starts .now) (a .j) 0 in
+    let to = getD (a .starts .now) (a .j + 1) 0 in
+    rw (lt-leb from to (omega arith)) refl
 
 returns-2 : tie.Need-returns-2
 unfolding partLies
 returns-2 c =
     let a = c .before .before .before .before .before .before .before .before .args in
-    rw (le-leb (getD (a .starts .now) (a .j) 0) (getD (a .starts .now) (a .j + 1) 0) (omega arith), lt-leb (getD (a .starts .now) (a .j + 1) 0) (length (a .items .now)) (omega arith)) refl
+    let from = getD (a .starts .now) (a .j) 0 in
+    let to = getD (a .starts .now) (a .j + 1) 0 in
+    rw (le-leb from to (omega arith), lt-leb to (length (a .items .now)) (omega arith)) refl
 
 mul-items-lie : tie.Need-mul-items-lie
 mul-items-lie c = search needs
@@ -58,7 +62,9 @@ returns-3 : tie.Need-returns-3
 unfolding partLies
 returns-3 c =
     let a = c .before .before .before .before .before .before .before .before .before .before .args in
-    rw (le-leb (getD (a .starts .now) (a .j) 0) (getD (a .starts .now) (a .j + 1) 0) (omega arith), le-leb (getD (a .starts .now) (a .j + 1) 0) (length (a .items .now)) (omega arith)) (c .items-lie .ensures)
+    let from = getD (a .starts .now) (a .j) 0 in
+    let to = getD (a .starts .now) (a .j + 1) 0 in
+    rw (le-leb from to (omega arith), le-leb to (length (a .items .now)) (omega arith)) (c .items-lie .ensures)
 
 pub part-lies-spec : {M : Type 1} → statement M
 part-lies-spec =
