@@ -4,12 +4,11 @@ use mathlib.Core.Path.{_≡_}
 use mathlib.Core.List.{List, [], _∷_, map, List·Memᴰ}
 use lib.ListN.{length, getD}
 use Rattle.lists.specs.Lists.{Once}
-use Rattle.lists.specs.Keys.{find}
 use Rattle.lists.specs.Rows.{flat, rows, over}
 use Rattle.lists.specs.Groups.{Below}
 use Rattle.complex.specs.declared.numbering.Face.{Face}
 use Rattle.complex.specs.declared.holding.Shape.{Shape}
-use Rattle.complex.specs.Complex.{widthOf, countOf, metFaces, faces, holding, numbersOf}
+use Rattle.complex.specs.Complex.{widthOf, countOf, faces, holding, numbersOf}
 use Rattle.complex.specs.Builder.{Lists, pentachorons}
 
 -- there is room for the faces of P pentachorons: among the rows, the links of the chains and the numbers
