@@ -73,7 +73,7 @@ unfoldable pub lying : List (List ℕ) → List ℕ → ℕ → List ℕ → Boo
 lying rs s lo [] = true
 lying rs s lo (i ∷ is) = leb lo i && ltb i (length rs) && within s (getD rs i []) && lying rs s (i + 1) is
 
--- start j + 1 follows start j and is no more than the items have, and the items between them are so
+-- starts j and j + 1 do not fall and lie within the items, and the items between them are such numbers
 unfoldable pub partLies : List (List ℕ) → List ℕ → List ℕ → List ℕ → ℕ → Bool
 partLies rs s items ss j =
     leb (getD ss j 0) (getD ss (j + 1) 0) && leb (getD ss (j + 1) 0) (length items)

@@ -144,7 +144,7 @@ pub starts-row : (xs : List (List ℕ)) (i : ℕ) → i < length xs → slice (g
 starts-row xs i h = rows-from xs [] i h
 
 -- one row more: the end of all
-pub starts-snoc : (a : ℕ) (xs : List (List ℕ)) (x : List ℕ) → startsFrom a (xs ++ x ∷ []) ≡ startsFrom a xs ++ (a + length (flat (xs ++ x ∷ []))) ∷ []
+starts-snoc : (a : ℕ) (xs : List (List ℕ)) (x : List ℕ) → startsFrom a (xs ++ x ∷ []) ≡ startsFrom a xs ++ (a + length (flat (xs ++ x ∷ []))) ∷ []
 unfolding startsFrom flat
 starts-snoc a [] x = rw (append-nil x) refl
 starts-snoc a (y ∷ xs) x =
@@ -152,7 +152,7 @@ starts-snoc a (y ∷ xs) x =
     (starts-snoc (a + length y) xs x
     ∙ ap (λ (n : ℕ). startsFrom (a + length y) xs ++ n ∷ []) (omega (arith, length-append y (flat (xs ++ x ∷ [])))))
 
--- a row's start and end
+-- a row starts before it ends, within the total
 pub starts-fit : (xs : List (List ℕ)) (t : ℕ) → t < length xs
     → (getD (starts xs) t 0 ≤ getD (starts xs) (suc t) 0) × (getD (starts xs) (suc t) 0 ≤ length (flat xs))
 starts-fit xs t h =
