@@ -10,4 +10,5 @@ pub mod Whole
 pub mod Laws
 pub mod Rises
 pub mod BuiltComplex
+pub mod Holdings
 pub mod Pushing

@@ -1,14 +1,15 @@
 -- The check behind refusal 7: when counts and lists are those of a built complex, and what the check answers and leaves. Definitions only.
-use Prim.Native.Nat.{ℕ, _+_, _*_}
+use Prim.Native.Nat.{ℕ, _+_, _*_, _-_}
 use mathlib.Core.Path.{_≡_}
 use mathlib.Core.Bool.{Bool, true, false, not, cond, _&&_, _||_}
 use mathlib.Core.List.{List, [], _∷_, map}
 use lib.Dec.{eqb, ltb, leb}
-use lib.ListN.{length, take}
+use lib.ListN.{length, getD, take, drop}
 use Rattle.refusals.specs.declared.Refusal.the-variants.{NotBuilt, ShortRoom}
 use Rattle.refusals.specs.declared.Outcome.{Outcome}
 use Rattle.refusals.specs.declared.Outcome.the-variants as Outcome
 use Rattle.lists.specs.Rows.{flat, rows, starts, over, begins}
+use Rattle.lists.specs.Lists.{within}
 use Rattle.complex.specs.declared.Counts.{Counts}
 use Rattle.complex.specs.declared.Built.{Built}
 use Rattle.complex.specs.declared.Built.the-variants.{Done, Refused}
@@ -92,6 +93,17 @@ hasFaces f ps n list = eqb n (length (faces f ps)) && begins (flat (faces f ps))
 -- so do the three lists of faces
 unfoldable pub hasAllFaces : Counts → List (List ℕ) → List ℕ → List ℕ → List ℕ → Bool
 hasAllFaces c ps es ts ks = hasFaces Tet ps (c .tets) ks && hasFaces Edge ps (c .edges) es && hasFaces Triangle ps (c .triangles) ts
+
+-- the items are numbers of rows in which s lies, rising and none below lo
+unfoldable pub lying : List (List ℕ) → List ℕ → ℕ → List ℕ → Bool
+lying rs s lo [] = true
+lying rs s lo (i ∷ is) = leb lo i && ltb i (length rs) && within s (getD rs i []) && lying rs s (i + 1) is
+
+-- starts j and j + 1 do not fall and lie within the items, and the items between them are such numbers
+unfoldable pub partLies : List (List ℕ) → List ℕ → List ℕ → List ℕ → ℕ → Bool
+partLies rs s items ss j =
+    leb (getD ss j 0) (getD ss (j + 1) 0) && leb (getD ss (j + 1) 0) (length items)
+    && lying rs s 0 (take (getD ss (j + 1) 0 - getD ss j 0) (drop (getD ss j 0) items))
 
 -- items and starts begin with the numbers of the rows in which each key lies
 unfoldable pub holds : List (List ℕ) → List (List ℕ) → List ℕ → List ℕ → Bool

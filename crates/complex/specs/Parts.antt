@@ -1,4 +1,4 @@
--- What the parts of the builder ask and leave. Definitions only.
+-- What the parts of the builder and of the check ask and leave. Definitions only.
 use Prim.Native.Nat.{ℕ, _+_, _*_, _/_, _%_, _≤_, _<_}
 use mathlib.Core.Path.{_≡_}
 use mathlib.Core.Bool.{true}
@@ -10,7 +10,8 @@ use Rattle.lists.specs.Rows.{flat, rows, over, begins}
 use Rattle.lists.specs.Groups.{Below}
 use Rattle.complex.specs.declared.numbering.Face.{Face}
 use Rattle.complex.specs.declared.numbering.Face.the-variants.{Edge, Triangle}
-use Rattle.complex.specs.Complex.{widthOf, countOf, metFaces, faces, numbersOf}
+use Rattle.complex.specs.Complex.{widthOf, countOf, metFaces, faces, numbersOf, holding}
+use Rattle.complex.specs.declared.holding.Shape.{Shape}
 use Rattle.complex.specs.Builder.{Lists, pentachorons}
 
 -- whole pentachorons, and room for the links of the chains and the numbers of their faces
@@ -121,3 +122,9 @@ pub record Scratch (pents edges tris : ℕ) : Type 0 where
 pub record Noted (ps : List (List ℕ)) (pe pt : List ℕ) : Type 0 where
   pub edges : begins (numbersOf Edge ps) pe ≡ true
   pub triangles : begins (numbersOf Triangle ps) pt ≡ true
+
+-- keys and rows lie in their lists, and the total is how many rows the keys lie in, one key after the other
+pub record Holdable (keys : List ℕ) (k : Shape) (list : List ℕ) (s : Shape) (total : ℕ) : Type 0 where
+  pub keys-room : k .width * k .count ≤ length keys
+  pub rows-room : s .width * s .count ≤ length list
+  pub counted : total ≡ length (flat (map (holding (rows (s .width) (s .count) list)) (rows (k .width) (k .count) keys)))

@@ -35,7 +35,7 @@ fn too_large(n: usize, pent: &[u32]) -> bool
 }
 
 // Whether v is a vertex of `pent`.
-fn has(v: u32, pent: &[u32]) -> bool
+pub fn has(v: u32, pent: &[u32]) -> bool
     ensures { λ r. ⌜ r ≡ among v (now (pent .entry)) ⌝ }
 {
     let mut i = 0;

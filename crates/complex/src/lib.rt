@@ -3,6 +3,7 @@ mod adjacency;
 mod builder;
 mod checks;
 mod comparison;
+mod holding;
 mod numbering;
 mod sorting;
 

@@ -7,7 +7,7 @@ use native.Mathlib.Nat.{suc-inj}
 use native.Mathlib.Omega.{arith}
 use lib.ListN.{length}
 use Rattle.lists.specs.Lists.{combos, Within, Rising, Once}
-use Rattle.lists.proofs.Elements.{once-map}
+use Rattle.lists.proofs.Elements.{once-map, within-rest, within-later}
 
 -- ---- their elements
 
@@ -65,19 +65,9 @@ combos-has (x ∷ xs) zero (a ∷ t) rp rt l w = absurd (omega arith)
 combos-has (x ∷ xs) (suc k) [] rp rt l w = absurd (omega arith)
 combos-has (x ∷ xs) (suc k) (a ∷ t) rp rt l w =
     ⊎-elim
-    (λ e. Memᴰ·append-left (combos xs (suc k)) (Memᴰ·cast (ap (λ (b : ℕ). b ∷ t) e) (Memᴰ·map (λ (s : List ℕ). x ∷ s) (combos-has xs k t (rp .1) (rt .1) (suc-inj l) (first e)))))
-    (λ n. Memᴰ·append-right (map (λ (s : List ℕ). x ∷ s) (combos xs k)) (combos-has xs (suc k) (a ∷ t) (rp .1) rt l (later n)))
+    (λ e. Memᴰ·append-left (combos xs (suc k)) (Memᴰ·cast (ap (λ (b : ℕ). b ∷ t) e) (Memᴰ·map (λ (s : List ℕ). x ∷ s) (combos-has xs k t (rp .1) (rt .1) (suc-inj l) (within-rest a t x xs rt e w)))))
+    (λ n. Memᴰ·append-right (map (λ (s : List ℕ). x ∷ s) (combos xs k)) (combos-has xs (suc k) (a ∷ t) (rp .1) rt l (within-later a t x xs rt rp n w)))
     (List·Memᴰ·cases-cons (w a (List·Memᴰ·head refl)))
-  where
-    first : a ≡ x → Within t xs
-    first e v m = ⊎-elim (λ q. absurd (omega (arith, rt .0 v m))) (λ n. n) (List·Memᴰ·cases-cons (w v (List·Memᴰ·tail m)))
-
-    later : List·Memᴰ a xs → Within (a ∷ t) xs
-    later n v m =
-        ⊎-elim
-        (λ q. absurd (⊎-elim (λ u. omega (arith, rp .0 a n)) (λ u. omega (arith, rp .0 a n, rt .0 v u)) (List·Memᴰ·cases-cons m)))
-        (λ j. j)
-        (List·Memᴰ·cases-cons (w v m))
 
 -- ---- none stands twice
 

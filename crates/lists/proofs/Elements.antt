@@ -3,7 +3,7 @@ use mathlib.Core.Path.{_≡_, refl, sym, ap, _∙_, subst}
 use mathlib.Core.Logic.{_⊎_, inl, inr, ⊎-elim}
 use mathlib.Core.Bool.{Bool, true, false, cond}
 use mathlib.Core.List.{List, [], _∷_, _++_, map, map-append, reverse, reverseAux, append-assoc, append-nil, List·Memᴰ, List·Memᴰ·head, List·Memᴰ·tail, List·Memᴰ·cases-cons, List·Memᴰ·append-cases, List·Memᴰ·eq-of-singleton, List·Memᴰ·not-nil, Memᴰ·append-left, Memᴰ·append-right, Memᴰ·of-map, Memᴰ·cast}
-use Prim.Native.Nat.{ℕ, zero, suc, _+_, _*_, _<_, suc-le-suc}
+use Prim.Native.Nat.{ℕ, zero, suc, _+_, _*_, _≤_, _<_, suc-le-suc}
 use native.Mathlib.Nat.{le-of-suc-le-suc, not-suc-le-zero, zero-lt-suc, mul-zero, mul-suc}
 use native.Mathlib.Omega.{arith}
 use lib.ListN.{length, getD, length-append, length-map, List·getD-append}
@@ -235,3 +235,33 @@ upto-rising (suc n) = snoc (upto n) (upto-rising n) (λ v m. mem-upto n v m)
       (λ v m. ⊎-elim (r .0 v) (λ k. let e : v ≡ n = List·Memᴰ·eq-of-singleton k in omega (arith, h x (List·Memᴰ·head refl))) (List·Memᴰ·append-cases xs m)),
       snoc xs (r .1) (λ v m. h v (List·Memᴰ·tail m)),
     )
+
+-- a rising list within another that has the same first element: the rest is within the rest
+pub within-rest : (x : ℕ) (xs : List ℕ) (y : ℕ) (ys : List ℕ) → Rising (x ∷ xs) → x ≡ y → Within (x ∷ xs) (y ∷ ys) → Within xs ys
+within-rest x xs y ys r e w v m = ⊎-elim (λ q. absurd (omega (arith, r .0 v m))) (λ n. n) (List·Memᴰ·cases-cons (w v (List·Memᴰ·tail m)))
+
+-- one whose first element stands later is within the rest
+pub within-later : (x : ℕ) (xs : List ℕ) (y : ℕ) (ys : List ℕ) → Rising (x ∷ xs) → Rising (y ∷ ys) → List·Memᴰ x ys → Within (x ∷ xs) (y ∷ ys) → Within (x ∷ xs) ys
+within-later x xs y ys r q n w v m =
+    ⊎-elim
+    (λ e. absurd (⊎-elim (λ u. omega (arith, q .0 x n)) (λ u. omega (arith, q .0 x n, r .0 v u)) (List·Memᴰ·cases-cons m)))
+    (λ k. k)
+    (List·Memᴰ·cases-cons (w v m))
+
+-- no longer than another list, and the same where it is as long
+abbrev pub Sub : List ℕ → List ℕ → Type 0
+Sub xs ys = (length xs ≤ length ys) × (length ys ≤ length xs → xs ≡ ys)
+
+pub rising-sub : (xs ys : List ℕ) → Rising xs → Rising ys → Within xs ys → Sub xs ys
+rising-sub [] [] r q w = (omega arith, λ h. refl)
+rising-sub [] (y ∷ ys) r q w = (omega arith, λ h. absurd (omega arith))
+rising-sub (x ∷ xs) [] r q w = absurd (List·Memᴰ·not-nil (w x (List·Memᴰ·head refl)))
+rising-sub (x ∷ xs) (y ∷ ys) r q w =
+    ⊎-elim
+    (λ e.
+    let s : Sub xs ys = rising-sub xs ys (r .1) (q .1) (within-rest x xs y ys r e w) in
+    (omega (arith, s .0), λ h i. e i ∷ s .1 (omega arith) i))
+    (λ n.
+    let s : Sub (x ∷ xs) ys = rising-sub (x ∷ xs) ys r (q .1) (within-later x xs y ys r q n w) in
+    (omega (arith, s .0), λ h. absurd (omega (arith, s .0))))
+    (List·Memᴰ·cases-cons (w x (List·Memᴰ·head refl)))

@@ -1,16 +1,18 @@
 -- Rows in flat lists: what is written flat is read back, and what a list with room holds. Assumes nothing.
 use mathlib.Core.Path.{_≡_, refl, sym, ap, _∙_}
 use mathlib.Core.Bool.{true}
-use mathlib.Core.List.{List, [], _∷_, _++_, map, append-assoc, append-nil, List·Memᴰ·head, List·Memᴰ·tail, List·Memᴰ·cases-cons, List·Memᴰ·not-nil}
+use mathlib.Core.List.{List, [], _∷_, _++_, map, append-assoc, append-nil, List·Memᴰ·head, List·Memᴰ·tail, List·Memᴰ·cases-cons, List·Memᴰ·not-nil, map-append, List·Memᴰ}
 use mathlib.Core.Logic.{⊎-elim}
 use Prim.Native.Nat.{ℕ, zero, suc, _+_, _*_, _-_, _≤_, _<_}
 use native.Mathlib.Nat.{le-of-suc-le-suc, not-suc-le-zero, add-zero, mul-suc, mul-zero, mul-le-mul-left}
 use native.Mathlib.Omega.{arith}
+use native.Mathlib.Numerals.{add-one}
 use lib.ListN.{length, getD, take, drop, length-append, length-drop, take-append-drop}
-use lib.Seq.{drop-drop, take-add, take-at, drop-at, length-take-le, take-all, take-length, slice, take-append-add, take-append-seam, drop-append-seam}
-use Rattle.lists.specs.Lists.{gather}
+use lib.Seq.{drop-drop, take-suc, take-add, take-at, drop-at, length-take-le, take-all, take-length, slice, take-append-add, take-append-seam, drop-append-seam}
+use Rattle.lists.specs.Lists.{gather, upto}
 use Rattle.lists.specs.Rows.{flat, rows, Wide, startsFrom, starts, over, begins}
 use Rattle.lists.proofs.Tests.{Says, pass, fail, eqb-says, and-says, passes}
+use Rattle.lists.proofs.Elements.{Sub}
 
 -- ---- `rows`
 
@@ -158,6 +160,28 @@ rows-from (x ∷ xs) pre (suc i) h =
 pub starts-row : (xs : List (List ℕ)) (i : ℕ) → i < length xs → slice (getD (starts xs) i 0) (getD (starts xs) (suc i) 0) (flat xs) ≡ getD xs i []
 starts-row xs i h = rows-from xs [] i h
 
+-- one row more: the end of all
+starts-snoc : (a : ℕ) (xs : List (List ℕ)) (x : List ℕ) → startsFrom a (xs ++ x ∷ []) ≡ startsFrom a xs ++ (a + length (flat (xs ++ x ∷ []))) ∷ []
+unfolding startsFrom flat
+starts-snoc a [] x = rw (append-nil x) refl
+starts-snoc a (y ∷ xs) x =
+    ap (λ (r : List ℕ). a ∷ r)
+    (starts-snoc (a + length y) xs x
+    ∙ ap (λ (n : ℕ). startsFrom (a + length y) xs ++ n ∷ []) (omega (arith, length-append y (flat (xs ++ x ∷ [])))))
+
+-- a row starts before it ends, within the total
+pub starts-fit : (xs : List (List ℕ)) (t : ℕ) → t < length xs
+    → (getD (starts xs) t 0 ≤ getD (starts xs) (suc t) 0) × (getD (starts xs) (suc t) 0 ≤ length (flat xs))
+starts-fit xs t h =
+    let a : getD (starts xs) t 0 ≡ 0 + length (flat (take t xs)) = starts-at 0 t xs (omega arith) in
+    let b : getD (starts xs) (suc t) 0 ≡ 0 + length (flat (take (suc t) xs)) = starts-at 0 (suc t) xs h in
+    let e : length (flat (take (suc t) xs)) ≡ length (flat (take t xs)) + length (getD xs t []) =
+    ap (λ (r : List (List ℕ)). length (flat r)) (take-suc xs t [] h) ∙ ap length (flat-snoc (take t xs) (getD xs t [])) ∙ length-append (flat (take t xs)) (getD xs t []) in
+    let f : length (flat xs) ≡ length (flat (take (suc t) xs)) + length (flat (drop (suc t) xs)) =
+    ap (λ (r : List (List ℕ)). length (flat r)) (sym (take-append-drop (suc t) xs)) ∙ ap length (flat-append (take (suc t) xs) (drop (suc t) xs))
+    ∙ length-append (flat (take (suc t) xs)) (flat (drop (suc t) xs)) in
+    (omega (arith, a, b, e), omega (arith, b, f))
+
 -- ---- `over`
 
 pub over-take : (new old : List ℕ) (n : ℕ) → length new ≡ n → take n (over new old) ≡ new
@@ -202,8 +226,70 @@ part-tail s k = take-all (length s - k) (drop k s) (rw length-drop (omega arith)
 pub part-row : (w q : ℕ) (xs : List ℕ) → take (w * q + w - w * q) (drop (w * q) xs) ≡ take w (drop (w * q) xs)
 part-row w q xs = let e : w * q + w - w * q ≡ w = omega arith in rw e refl
 
+-- row q as a part that code takes
+abbrev pub rowPart : ℕ → List ℕ → ℕ → List ℕ
+rowPart w xs q = take (w * q + w - w * q) (drop (w * q) xs)
+
+pub row-part : (w n : ℕ) (xs : List ℕ) (q : ℕ) → q < n → getD (rows w n xs) q [] ≡ rowPart w xs q
+row-part w n xs q h = rows-at w n xs q h ∙ sym (part-row w q xs)
+
 pub length-part : (w q n : ℕ) (xs : List ℕ) → q < n → w * n ≤ length xs → length (take w (drop (w * q) xs)) ≡ w
 length-part w q n xs h r = length-take-le w (drop (w * q) xs) (omega (arith, row-below w q n h, length-drop (w * q) xs))
+
+pub slice-part : (f t : ℕ) (xs : List ℕ) → f ≤ t → f ≤ length xs → slice f t xs ≡ take (t - f) (drop f xs)
+slice-part f t xs h l =
+    let e : f + (t - f) ≡ t = omega arith in
+    ap (λ (n : ℕ). drop f (take n xs)) (sym e) ∙ ap (drop f) (take-add f (t - f) xs) ∙ drop-at (take f xs) (take (t - f) (drop f xs)) f (length-take-le f xs l)
+
+-- the part of a list from start j up to start j + 1
+abbrev pub part : List ℕ → List ℕ → ℕ → List ℕ
+part ss xs j = take (getD ss (j + 1) 0 - getD ss j 0) (drop (getD ss j 0) xs)
+
+-- n + 1 starts from 0 on that do not fall and lie within a list
+pub record Splits (ss xs : List ℕ) (n : ℕ) : Type 0 where
+  pub long : n < length ss
+  pub first : getD ss 0 0 ≡ 0
+  pub rise : (j : ℕ) → j < n → getD ss j 0 ≤ getD ss (j + 1) 0
+  pub room : (j : ℕ) → j < n → getD ss (j + 1) 0 ≤ length xs
+
+module _ (ss xs : List ℕ) where
+  parts : ℕ → List (List ℕ)
+  parts n = map (part ss xs) (upto n)
+
+  parts-next : (n : ℕ) → parts (suc n) ≡ parts n ++ part ss xs n ∷ []
+  unfolding parts upto
+  parts-next n = map-append (part ss xs) (upto n) (n ∷ [])
+
+  splits-less : {n : ℕ} → Splits ss xs (suc n) → Splits ss xs n
+  splits-less s = record { long = omega (arith, s .long); first = s .first; rise = λ j h. s .rise j (omega arith); room = λ j h. s .room j (omega arith) }
+
+  splits-room : (n : ℕ) → Splits ss xs n → getD ss n 0 ≤ length xs
+  splits-room zero s = omega (arith, s .first)
+  splits-room (suc n) s = rw add-one at (s .room n (omega arith))
+
+  -- the parts, one after the other
+  pub flat-parts : (n : ℕ) → Splits ss xs n → flat (map (part ss xs) (upto n)) ≡ take (getD ss n 0) xs
+  unfolding flat upto parts
+  flat-parts zero s = rw (s .first) refl
+  flat-parts (suc n) s =
+      let e : getD ss n 0 + (getD ss (n + 1) 0 - getD ss n 0) ≡ getD ss (suc n) 0 = omega (arith, s .rise n (omega arith), ap (λ (k : ℕ). getD ss k 0) (add-one n)) in
+      ap flat (parts-next n) ∙ flat-snoc (parts n) (part ss xs n) ∙ ap (λ (r : List ℕ). r ++ part ss xs n) (flat-parts n (splits-less s))
+      ∙ sym (take-add (getD ss n 0) (getD ss (n + 1) 0 - getD ss n 0) xs) ∙ ap (λ (k : ℕ). take k xs) e
+
+  pub length-parts : (n : ℕ) → Splits ss xs n → length (flat (map (part ss xs) (upto n))) ≡ getD ss n 0
+  length-parts n s = ap length (flat-parts n s) ∙ length-take-le (getD ss n 0) xs (splits-room n s)
+
+  -- the starts of the parts
+  pub starts-parts : (n : ℕ) → Splits ss xs n → starts (map (part ss xs) (upto n)) ≡ take (suc n) ss
+  unfolding upto startsFrom parts
+  starts-parts zero s = sym (take-suc ss 0 0 (s .long) ∙ rw (s .first) refl)
+  starts-parts (suc n) s =
+      ap starts (parts-next n) ∙ starts-snoc 0 (parts n) (part ss xs n)
+      ∙ (λ i. starts-parts n (splits-less s) i ++ end i ∷ [])
+      ∙ sym (take-suc ss (suc n) 0 (s .long))
+    where
+      end : 0 + length (flat (parts n ++ part ss xs n ∷ [])) ≡ getD ss (suc n) 0
+      end = omega (arith, ap (λ (r : List (List ℕ)). length (flat r)) (parts-next n), length-parts (suc n) s)
 
 -- ---- gathered rows
 
@@ -211,3 +297,15 @@ pub flat-map : {A : Type 0} (f : A → List ℕ) (xs : List A) → flat (map f x
 unfolding flat gather
 flat-map f [] = refl
 flat-map f (x ∷ xs) = ap (λ (r : List ℕ). f x ++ r) (flat-map f xs)
+
+-- lists that are each no longer than another, and the same where they are as long, are so all together
+pub flat-sub : {A : Type 0} (f g : A → List ℕ) (xs : List A) → ((a : A) → List·Memᴰ a xs → Sub (f a) (g a))
+    → (length (flat (map f xs)) ≤ length (flat (map g xs))) × (length (flat (map g xs)) ≤ length (flat (map f xs)) → map f xs ≡ map g xs)
+unfolding flat
+flat-sub f g [] h = (omega arith, λ l. refl)
+flat-sub f g (x ∷ xs) h =
+    let s : Sub (f x) (g x) = h x (List·Memᴰ·head refl) in
+    let r = flat-sub f g xs (λ a m. h a (List·Memᴰ·tail m)) in
+    let a = length-append (f x) (flat (map f xs)) in
+    let b = length-append (g x) (flat (map g xs)) in
+    (omega (arith, a, b, s .0, r .0), λ l i. s .1 (omega (arith, a, b, s .0, r .0)) i ∷ r .1 (omega (arith, a, b, s .0, r .0)) i)

@@ -2,9 +2,9 @@
 use mathlib.Core.Path.{_≡_, refl, subst}
 use mathlib.Core.Logic.{_⊎_, inl, inr, ⊎-elim}
 use mathlib.Core.Bool.{Bool, true, false, not, _&&_, _||_}
-use Prim.Native.Nat.{ℕ, _≤_, _<_}
+use Prim.Native.Nat.{ℕ, _+_, _≤_, _<_}
 use native.Mathlib.Omega.{arith}
-use lib.Dec.{T, eqb, ltb, eqb→eq, eqb-refl, T-not, ltb→lt, lt→ltb}
+use lib.Dec.{T, eqb, ltb, leb, eqb→eq, eqb-refl, T-not, ltb→lt, lt→ltb, leb→le, le→leb}
 
 -- P where the test passes, not P where it fails
 pub data Says (P : Type 0) : Bool → Type 0 where
@@ -28,6 +28,9 @@ eqb-says m n = says (eqb m n) (eqb→eq m n) (λ t e. T-not (eqb m n) t (subst (
 pub ltb-says : (m n : ℕ) → Says (m < n) (ltb m n)
 ltb-says m n = says (ltb m n) (ltb→lt m n) (λ t h. T-not (ltb m n) t (lt→ltb m n h))
 
+pub leb-says : (m n : ℕ) → Says (m ≤ n) (leb m n)
+leb-says m n = says (leb m n) (leb→le m n) (λ t h. T-not (leb m n) t (le→leb m n h))
+
 pub lt-or-ge : (m n : ℕ) → (m < n) ⊎ (n ≤ m)
 lt-or-ge m n = go (ltb-says m n)
   where
@@ -41,6 +44,10 @@ eq-or-ne m n = go (eqb-says m n)
     go : {b : Bool} → Says (m ≡ n) b → (m ≡ n) ⊎ (m ≡ n → ⊥)
     go (pass e) = inl e
     go (fail f) = inr f
+
+-- what holds below j and at j holds below j + 1
+pub below-next : (P : ℕ → Type 0) (j : ℕ) → ((i : ℕ) → i < j → P i) → P j → (i : ℕ) → i < j + 1 → P i
+below-next P j f p i h = ⊎-elim (f i) (λ g. let e : j ≡ i = omega arith in subst P e p) (lt-or-ge i j)
 
 -- ---- tests made of tests
 
