@@ -2,6 +2,7 @@
 mod adjacency;
 mod builder;
 mod checks;
+mod incidence;
 mod numbering;
 mod sorting;
 
