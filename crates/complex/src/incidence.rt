@@ -3,12 +3,13 @@ use crate::Counts;
 use crate::adjacency::edge_at;
 ghost use mathlib.Core.Path.{_≡_};
 ghost use mathlib.Core.Bool.{true};
-ghost use mathlib.Core.List.{[]};
+ghost use mathlib.Core.List.{[], _∷_};
 ghost use Prim.Native.Nat.{_+_, _*_, _-_, _≤_, _<_};
 ghost use lib.ListN.{length, getD, take, drop};
 ghost use Rattle.lists.specs.Lists.{among, within};
 ghost use Rattle.complex.specs.Complex.{holding, rowNumbers};
 ghost use Rattle.complex.specs.Check.{holds};
+ghost use Rattle.complex.specs.Parts.{edgeAt};
 ghost use Rattle.complex.specs.Incidence.{pentsIn, edgesIn, trianglesIn, Tens, Simplices, Lie, edgeList, indexList, oppositeIndices};
 
 // The number of an edge.
@@ -159,6 +160,18 @@ fn local_index(numbers: &[u32], n: u32) -> usize
     q
 }
 
+// The three edges of the q-th triangle of a pentachoron, by the numbers of its ten edges.
+fn edges_at(ten: &[u32], q: usize) -> TriangleEdges
+    requires { ⌜ (length (now ten) ≡ 10) × (q < 10) ⌝ }
+    ensures { λ r. ⌜ edgeList r ≡ edgeAt (now (ten .entry)) q 0 ∷ edgeAt (now (ten .entry)) q 1 ∷ edgeAt (now (ten .entry)) q 2 ∷ [] ⌝ }
+{
+    TriangleEdges(
+        EdgeNumber(edge_at(ten, q, 0)),
+        EdgeNumber(edge_at(ten, q, 1)),
+        EdgeNumber(edge_at(ten, q, 2)),
+    )
+}
+
 // The numbers of the three edges of a triangle, read from the first pentachoron in which it lies.
 pub fn tri_edge_indices<'a>(
     counts: Counts,
@@ -171,9 +184,12 @@ pub fn tri_edge_indices<'a>(
     pent_tris: &'a [u32],
     tri: TriangleNumber,
 ) -> TriangleEdges
-    requires { ⌜ Simplices (pentsIn counts (now pents)) (trianglesIn counts (now triangles)) × Lie (pentsIn counts (now pents)) (trianglesIn counts (now triangles)) ⌝ }
-    requires { ⌜ Tens (edgesIn counts (now edges)) 2 (counts .pentachorons) (now pents) (now «pent_edges») × Tens (trianglesIn counts (now triangles)) 3 (counts .pentachorons) (now pents) (now «pent_tris») ⌝ }
-    requires { ⌜ (holds (pentsIn counts (now pents)) (trianglesIn counts (now triangles)) (now «tri_to_pents_items») (now «tri_to_pents_starts») ≡ true) × (tri .0 < counts .triangles) ⌝ }
+    requires { ⌜ Simplices (pentsIn counts (now pents)) (trianglesIn counts (now triangles))
+        × Lie (pentsIn counts (now pents)) (trianglesIn counts (now triangles))
+        × (holds (pentsIn counts (now pents)) (trianglesIn counts (now triangles)) (now «tri_to_pents_items») (now «tri_to_pents_starts») ≡ true)
+        × Tens (edgesIn counts (now edges)) 2 (counts .pentachorons) (now pents) (now «pent_edges»)
+        × Tens (trianglesIn counts (now triangles)) 3 (counts .pentachorons) (now pents) (now «pent_tris»)
+        × (tri .0 < counts .triangles) ⌝ }
     ensures { λ r. ⌜ edgeList r ≡ rowNumbers (edgesIn counts (now (edges .entry))) 2 (getD (trianglesIn counts (now (triangles .entry))) (tri .0) []) ⌝ }
 {
     let t = tri.0;
@@ -188,12 +204,7 @@ pub fn tri_edge_indices<'a>(
     let p = holders[0];
     let tris = pent_tri_indices(counts, pents, triangles, pent_tris, PentachoronNumber(p));
     let own = pent_edge_indices(counts, pents, edges, pent_edges, PentachoronNumber(p));
-    let q = local_index(tris, t);
-    TriangleEdges(
-        EdgeNumber(edge_at(own, q, 0)),
-        EdgeNumber(edge_at(own, q, 1)),
-        EdgeNumber(edge_at(own, q, 2)),
-    )
+    edges_at(own, local_index(tris, t))
 }
 
 // The two vertices of a pentachoron that are not in a triangle that lies in it.
@@ -205,9 +216,11 @@ pub fn opposite_local_indices<'a>(
     pent: PentachoronNumber,
     tri: TriangleNumber,
 ) -> Opposite
-    requires { ⌜ Simplices (pentsIn counts (now pents)) (trianglesIn counts (now triangles)) × Tens (trianglesIn counts (now triangles)) 3 (counts .pentachorons) (now pents) (now «pent_tris») ⌝ }
-    requires { ⌜ (pent .0 < counts .pentachorons) × (tri .0 < counts .triangles) ⌝ }
-    requires { ⌜ within (getD (trianglesIn counts (now triangles)) (tri .0) []) (getD (pentsIn counts (now pents)) (pent .0) []) ≡ true ⌝ }
+    requires { ⌜ Simplices (pentsIn counts (now pents)) (trianglesIn counts (now triangles))
+        × Tens (trianglesIn counts (now triangles)) 3 (counts .pentachorons) (now pents) (now «pent_tris»)
+        × (pent .0 < counts .pentachorons)
+        × (tri .0 < counts .triangles)
+        × (within (getD (trianglesIn counts (now triangles)) (tri .0) []) (getD (pentsIn counts (now pents)) (pent .0) []) ≡ true) ⌝ }
     ensures { λ r. ⌜ indexList r ≡ oppositeIndices (getD (pentsIn counts (now (pents .entry))) (pent .0) []) (getD (trianglesIn counts (now (triangles .entry))) (tri .0) []) ⌝ }
 {
     let t = tri.0;
