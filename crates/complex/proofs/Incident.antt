@@ -9,25 +9,37 @@ use native.Mathlib.Numerals.{add-one}
 use native.Mathlib.Omega.{arith}
 use lib.Dec.{eqb}
 use lib.ListN.{length, getD, take, drop, length-append, length-map, take-append-drop, getD-replicate}
-use lib.Seq.{slice, take-add, take-take, take-all, drop-at, getD-take, length-take-le}
-use Rattle.lists.specs.Lists.{keep, gather, upto, combos, among, within, Within, Rising}
+use lib.Seq.{slice, take-add, take-take, drop-at, getD-take, length-take-le}
+use Rattle.lists.specs.Lists.{keep, gather, upto, combos, among, Within, Rising}
 use Rattle.lists.specs.Keys.{find}
-use Rattle.lists.specs.Rows.{flat, rows, Wide, startsFrom, starts, begins}
+use Rattle.lists.specs.Rows.{flat, rows, Wide, startsFrom, starts, over, begins}
 use Rattle.lists.proofs.Tests.{said, passes, fails, lt-or-ge, eqb-says}
-use Rattle.lists.proofs.Elements.{getD-mem, mem-getD, getD-map, length-gather, map-gather, among-says, within-says}
+use Rattle.lists.proofs.Elements.{getD-mem, mem-getD, getD-map, length-gather, map-gather, among-says}
 use Rattle.lists.proofs.Keys.{find-get}
-use Rattle.lists.proofs.Choices.{combos-rising, combos-has}
-use Rattle.lists.proofs.Rows.{rows-at, row-below, rows-flat, rows-wide, length-rows, length-starts, starts-at, starts-row, begins-says, begins-long, flat-map}
+use Rattle.lists.proofs.Choices.{combos-within, combos-rising, combos-has}
+use Rattle.lists.proofs.Rows.{rows-at, row-below, rows-flat, rows-wide, length-rows, length-flat, length-starts, starts-at, starts-row, begins-says, begins-long, over-take, flat-map}
 use Rattle.complex.specs.declared.numbering.Face.the-variants.{Edge, Triangle}
 use Rattle.complex.specs.Complex.{edges, triangles, metFaces, facesOf, numbersOf, holding, rowNumbers, triToPents, edgeToTris, edgeToPents}
-use Rattle.complex.specs.Check.{holds}
+use Rattle.complex.specs.Check.{beginAll, holds}
+use Rattle.complex.specs.Builder.{Lists, written}
+use Rattle.complex.specs.declared.Counts.{Counts}
 use Rattle.complex.specs.Parts.{edgePlaces, edgeAt}
-use Rattle.complex.specs.Incidence.{Tens, Simplices, Lie, oppositeIndices, opposites}
-use Rattle.complex.proofs.Sorted.{five-of}
+use Rattle.complex.specs.Incidence.{pentsIn, edgesIn, trianglesIn, Tens, Simplices, Lie, oppositeIndices, opposites}
 use Rattle.complex.proofs.Meetings.{count-faces}
 use Rattle.complex.proofs.TriangleEdges.{place-below}
 use Rattle.complex.proofs.Lying.{Sorted, faces-distinct, faces-only, face-rising, mem-holding, holding-mem}
 use Rattle.complex.proofs.FaceNumbers.{three-edges, one-edge}
+
+-- both parts of a test that passes
+and-true : (a b : Bool) → (a && b) ≡ true → (a ≡ true) × (b ≡ true)
+and-true true b e = (refl, e)
+and-true false b e = absurd (let z : _≡_ {A = ℕ} 0 1 = cc in omega arith)
+
+-- rows of a list that begins with them
+rows-begun : (w : ℕ) (xs : List (List ℕ)) (l : List ℕ) → Wide w xs → begins (flat xs) l ≡ true → rows w (length xs) l ≡ xs
+rows-begun w xs l wide ok =
+    let n = length (flat xs) in
+    ap (rows w (length xs)) (sym (take-append-drop n l) ∙ ap (λ (k : List ℕ). k ++ drop n l) (said (begins-says (flat xs) l) ok)) ∙ rows-flat w xs (drop n l) wide
 
 -- ---- parts of items
 
@@ -54,15 +66,11 @@ part-is l a b h k =
 
 -- items and starts that begin with those of gs
 module _ (gs : List (List ℕ)) (items ss : List ℕ) (ok : (begins (flat gs) items && begins (starts gs) ss) ≡ true) where
-  both : (a b : Bool) → (a && b) ≡ true → (a ≡ true) × (b ≡ true)
-  both true b e = (refl, e)
-  both false b e = absurd (let z : _≡_ {A = ℕ} 0 1 = cc in omega arith)
-
   items-begin : take (length (flat gs)) items ≡ flat gs
-  items-begin = said (begins-says (flat gs) items) (both (begins (flat gs) items) (begins (starts gs) ss) ok .0)
+  items-begin = said (begins-says (flat gs) items) (and-true (begins (flat gs) items) (begins (starts gs) ss) ok .0)
 
   starts-begin : take (length (starts gs)) ss ≡ starts gs
-  starts-begin = said (begins-says (starts gs) ss) (both (begins (flat gs) items) (begins (starts gs) ss) ok .1)
+  starts-begin = said (begins-says (starts gs) ss) (and-true (begins (flat gs) items) (begins (starts gs) ss) ok .1)
 
   start-at : (i : ℕ) → i ≤ length gs → getD ss i 0 ≡ getD (starts gs) i 0
   start-at i h =
@@ -73,7 +81,7 @@ module _ (gs : List (List ℕ)) (items ss : List ℕ) (ok : (begins (flat gs) it
   part-fits i h = (
     omega (arith, length-starts 0 gs, begins-long (starts gs) ss starts-begin),
     (let e : getD (starts gs) (i + 1) 0 ≡ getD (starts gs) i 0 + length (getD gs i []) = rw (add-one i) (starts-next 0 gs i h) in
-      omega (arith, start-at i (omega arith), start-at (i + 1) (omega arith))),
+        omega (arith, start-at i (omega arith), start-at (i + 1) (omega arith))),
     omega (arith, start-at (i + 1) (omega arith), starts-most 0 gs (i + 1) (omega arith), begins-long (flat gs) items items-begin),
   )
 
@@ -121,15 +129,10 @@ ten-faces keys p h = (
 row-in : (w : ℕ) (f : List ℕ → List ℕ) (ps : List (List ℕ)) (numbers : List ℕ) → ((p : List ℕ) → List·Memᴰ p ps → length (f p) ≡ w) → begins (gather f ps) numbers ≡ true → (i : ℕ) → i < length ps
     → (w * i + w ≤ length numbers) × (take w (drop (w * i) numbers) ≡ f (getD ps i []))
 row-in w f ps numbers wide ok i h =
-    let b : take (length (gather f ps)) numbers ≡ gather f ps = said (begins-says (gather f ps) numbers) ok in
     let n : length (gather f ps) ≡ w * length ps = length-gather f w ps wide in
-    let rest = drop (length (gather f ps)) numbers in
-    let split : numbers ≡ flat (map f ps) ++ rest = sym (take-append-drop (length (gather f ps)) numbers) ∙ ap (λ (l : List ℕ). l ++ rest) (b ∙ sym (flat-map f ps)) in
-    let long : length (map f ps) ≡ length ps = length-map ps f in
-    (
-      omega (arith, row-below w i (length ps) h, begins-long (gather f ps) numbers b),
-      sym (rows-at w (length ps) numbers i h) ∙ ap (λ (m : ℕ). getD (rows w m numbers) i []) (sym long)
-      ∙ ap (λ (l : List ℕ). getD (rows w (length (map f ps)) l) i []) split ∙ ap (λ (l : List (List ℕ)). getD l i []) (rows-flat w (map f ps) rest wide-map) ∙ getD-map f ps i [] [] h
+    let e : rows w (length (map f ps)) numbers ≡ map f ps = rows-begun w (map f ps) numbers wide-map (rw (flat-map f ps) ok) in (
+      omega (arith, row-below w i (length ps) h, begins-long (gather f ps) numbers (said (begins-says (gather f ps) numbers) ok)),
+      sym (rows-at w (length ps) numbers i h) ∙ ap (λ (m : ℕ). getD (rows w m numbers) i []) (sym (length-map ps f)) ∙ ap (λ (l : List (List ℕ)). getD l i []) e ∙ getD-map f ps i [] [] h,
     )
   where
     wide-map : Wide w (map f ps)
@@ -195,11 +198,33 @@ above m n h = fails (eqb-says m n) (λ e. omega arith)
 five-opposites : (a b c d e : ℕ) → a < b → b < c → c < d → d < e → map (oppositeIndices (a ∷ b ∷ c ∷ d ∷ e ∷ [])) (combos (a ∷ b ∷ c ∷ d ∷ e ∷ []) 3) ≡ opposites
 unfolding combos oppositeIndices keep upto among
 five-opposites a b c d e ab bc cd de =
-    rw (same a, same b, same c, same d, same e,
-    below a b (omega arith), below a c (omega arith), below a d (omega arith), below a e (omega arith), below b c (omega arith),
-    below b d (omega arith), below b e (omega arith), below c d (omega arith), below c e (omega arith), below d e (omega arith),
-    above b a (omega arith), above c a (omega arith), above d a (omega arith), above e a (omega arith), above c b (omega arith),
-    above d b (omega arith), above e b (omega arith), above d c (omega arith), above e c (omega arith), above e d (omega arith))
+    rw (
+      same a,
+      same b,
+      same c,
+      same d,
+      same e,
+      below a b (omega arith),
+      below a c (omega arith),
+      below a d (omega arith),
+      below a e (omega arith),
+      below b c (omega arith),
+      below b d (omega arith),
+      below b e (omega arith),
+      below c d (omega arith),
+      below c e (omega arith),
+      below d e (omega arith),
+      above b a (omega arith),
+      above c a (omega arith),
+      above d a (omega arith),
+      above e a (omega arith),
+      above c b (omega arith),
+      above d b (omega arith),
+      above e b (omega arith),
+      above d c (omega arith),
+      above e c (omega arith),
+      above e d (omega arith),
+    )
     refl
 
 all-opposites : (p : List ℕ) → length p ≡ 5 → Rising p → map (oppositeIndices p) (combos p 3) ≡ opposites
@@ -295,3 +320,82 @@ module _ (P T : ℕ) (pents triangles : List ℕ) (ok : Simplices (rows 5 P pent
     opposite-own =
         sym (two-of (getD opposites q []) (sym (getD-map length opposites q [] 0 below-ten) ∙ getD-replicate 10 q 2 0 below-ten))
         ∙ ap (λ (l : List (List ℕ)). getD l q []) (sym (all-opposites pent five up)) ∙ getD-map (oppositeIndices pent) (combos pent 3) q [] [] among-ten ∙ ap (oppositeIndices pent) q-th
+
+-- ---- a built complex
+
+-- the numbers of all faces are those of each pentachoron's
+pub edge-numbers : (ps : List (List ℕ)) → numbersOf Edge ps ≡ gather (rowNumbers (edges ps) 2) ps
+unfolding numbersOf metFaces
+edge-numbers ps = map-gather (λ s. find s (edges ps)) (facesOf Edge) ps
+
+pub triangle-numbers : (ps : List (List ℕ)) → numbersOf Triangle ps ≡ gather (rowNumbers (triangles ps) 3) ps
+unfolding numbersOf metFaces
+triangle-numbers ps = map-gather (λ s. find s (triangles ps)) (facesOf Triangle) ps
+
+-- numbers that were written are there
+pub over-begun : (new old : List ℕ) → begins new (over new old) ≡ true
+over-begun new old = passes (begins-says new (over new old)) (over-take new old (length new) refl)
+
+-- the triangles of sorted pentachorons
+pub simplices-of : (ps : List (List ℕ)) → Sorted ps → Simplices ps (triangles ps)
+simplices-of ps up = record { pentachoron = up; triangle = λ t m. face-rising Triangle ps up m; distinct = faces-distinct Triangle ps }
+
+pub lie-of : (ps : List (List ℕ)) → Lie ps (triangles ps)
+lie-of ps t m =
+    let w : (p : List ℕ) × List·Memᴰ p ps × List·Memᴰ t (facesOf Triangle p) = faces-only Triangle ps m in
+    (w .0, w .1, combos-within (w .0) 3 (w .2))
+
+-- counts and lists as the builder leaves them for sorted pentachorons: all that the incidence functions ask
+module _ (c : Counts) (l : Lists) (ps : List (List ℕ)) (five : Wide 5 ps) (up : Sorted ps) (n-pents : c .pentachorons ≡ length ps) (n-edges : c .edges ≡ length (edges ps)) (n-triangles : c .triangles ≡ length (triangles ps)) (lent : beginAll (written ps) l ≡ true) where
+  begun : (begins (flat ps) (l .pents) ≡ true) × (begins (flat (edges ps)) (l .edges) ≡ true) × (begins (flat (triangles ps)) (l .triangles) ≡ true)
+      × ((begins (flat (triToPents ps)) (l .triToPents) && begins (starts (triToPents ps)) (l .triToPentsStarts)) ≡ true)
+      × ((begins (flat (edgeToTris ps)) (l .edgeToTris) && begins (starts (edgeToTris ps)) (l .edgeToTrisStarts)) ≡ true)
+      × ((begins (flat (edgeToPents ps)) (l .edgeToPents) && begins (starts (edgeToPents ps)) (l .edgeToPentsStarts)) ≡ true)
+  unfolding beginAll written
+  begun =
+      let j = and-true _ _ lent in
+      let i = and-true _ _ (j .0) in
+      let h = and-true _ _ (i .0) in
+      let g = and-true _ _ (h .0) in
+      let f = and-true _ _ (g .0) in
+      let e = and-true _ _ (f .0) in
+      let d = and-true _ _ (e .0) in
+      let c = and-true _ _ (d .0) in
+      let b = and-true _ _ (c .0) in
+      (b .0, b .1, c .1, rw (e .1, f .1) refl, rw (g .1, h .1) refl, rw (i .1, j .1) refl)
+
+  pub pents-are : pentsIn c (l .pents) ≡ ps
+  pents-are = rw n-pents (rows-begun 5 ps (l .pents) five (begun .0))
+
+  pub edges-are : edgesIn c (l .edges) ≡ edges ps
+  edges-are = rw n-edges (rows-begun 2 (edges ps) (l .edges) (λ s m. face-rising Edge ps up m .1) (begun .1))
+
+  pub triangles-are : trianglesIn c (l .triangles) ≡ triangles ps
+  triangles-are = rw n-triangles (rows-begun 3 (triangles ps) (l .triangles) (λ s m. face-rising Triangle ps up m .1) (begun .2))
+
+  pub tri-to-pents-hold : holds (pentsIn c (l .pents)) (trianglesIn c (l .triangles)) (l .triToPents) (l .triToPentsStarts) ≡ true
+  unfolding holds triToPents
+  tri-to-pents-hold = rw (pents-are, triangles-are) (begun .3)
+
+  pub edge-to-tris-hold : holds (trianglesIn c (l .triangles)) (edgesIn c (l .edges)) (l .edgeToTris) (l .edgeToTrisStarts) ≡ true
+  unfolding holds edgeToTris
+  edge-to-tris-hold = rw (triangles-are, edges-are) (begun .4)
+
+  pub edge-to-pents-hold : holds (pentsIn c (l .pents)) (edgesIn c (l .edges)) (l .edgeToPents) (l .edgeToPentsStarts) ≡ true
+  unfolding holds edgeToPents
+  edge-to-pents-hold = rw (pents-are, edges-are) (begun .5)
+
+  pents-room : 5 * c .pentachorons ≤ length (l .pents)
+  pents-room = omega (arith, length-flat 5 ps five, begins-long (flat ps) (l .pents) (said (begins-says (flat ps) (l .pents)) (begun .0)))
+
+  pub edge-tens : (numbers : List ℕ) → begins (numbersOf Edge ps) numbers ≡ true → Tens (edgesIn c (l .edges)) 2 (c .pentachorons) (l .pents) numbers
+  edge-tens numbers e = record { room = pents-room; noted = rw (pents-are, edges-are, ← edge-numbers ps) e }
+
+  pub triangle-tens : (numbers : List ℕ) → begins (numbersOf Triangle ps) numbers ≡ true → Tens (trianglesIn c (l .triangles)) 3 (c .pentachorons) (l .pents) numbers
+  triangle-tens numbers e = record { room = pents-room; noted = rw (pents-are, triangles-are, ← triangle-numbers ps) e }
+
+  pub simplices-are : Simplices (pentsIn c (l .pents)) (trianglesIn c (l .triangles))
+  simplices-are = rw (pents-are, triangles-are) (simplices-of ps up)
+
+  pub lie-there : Lie (pentsIn c (l .pents)) (trianglesIn c (l .triangles))
+  lie-there = rw (pents-are, triangles-are) (lie-of ps)
