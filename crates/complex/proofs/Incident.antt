@@ -7,13 +7,13 @@ use mathlib.Core.List.{List, [], _∷_, _++_, map, List·Memᴰ, List·Memᴰ·h
 use native.Mathlib.Nat.{le-of-suc-le-suc, not-suc-le-zero, add-zero}
 use native.Mathlib.Numerals.{add-one}
 use native.Mathlib.Omega.{arith}
-use lib.Dec.{eqb}
 use lib.ListN.{length, getD, take, drop, length-append, length-map, take-append-drop, getD-replicate}
 use lib.Seq.{slice, take-add, take-take, drop-at, getD-take, length-take-le}
+use borrow.Author.Tests.{eq-eqb, ne-eqb}
 use Rattle.lists.specs.Lists.{keep, gather, upto, combos, among, Within, Rising}
 use Rattle.lists.specs.Keys.{find}
 use Rattle.lists.specs.Rows.{flat, rows, Wide, startsFrom, starts, over, begins}
-use Rattle.lists.proofs.Tests.{said, passes, fails, lt-or-ge, eqb-says}
+use Rattle.lists.proofs.Tests.{said, passes, lt-or-ge}
 use Rattle.lists.proofs.Elements.{getD-mem, mem-getD, getD-map, length-gather, map-gather, among-says}
 use Rattle.lists.proofs.Keys.{find-get}
 use Rattle.lists.proofs.Choices.{combos-within, combos-rising, combos-has}
@@ -185,45 +185,36 @@ two-of [] h = absurd (omega arith)
 two-of (a ∷ []) h = absurd (omega arith)
 two-of (a ∷ b ∷ c ∷ l) h = absurd (omega arith)
 
-same : (m : ℕ) → eqb m m ≡ true
-same m = passes (eqb-says m m) refl
-
-below : (m n : ℕ) → m < n → eqb m n ≡ false
-below m n h = fails (eqb-says m n) (λ e. omega arith)
-
-above : (m n : ℕ) → n < m → eqb m n ≡ false
-above m n h = fails (eqb-says m n) (λ e. omega arith)
-
 -- the table of opposite vertices is right
 five-opposites : (a b c d e : ℕ) → a < b → b < c → c < d → d < e → map (oppositeIndices (a ∷ b ∷ c ∷ d ∷ e ∷ [])) (combos (a ∷ b ∷ c ∷ d ∷ e ∷ []) 3) ≡ opposites
 unfolding combos oppositeIndices keep upto among
 five-opposites a b c d e ab bc cd de =
     rw (
-      same a,
-      same b,
-      same c,
-      same d,
-      same e,
-      below a b (omega arith),
-      below a c (omega arith),
-      below a d (omega arith),
-      below a e (omega arith),
-      below b c (omega arith),
-      below b d (omega arith),
-      below b e (omega arith),
-      below c d (omega arith),
-      below c e (omega arith),
-      below d e (omega arith),
-      above b a (omega arith),
-      above c a (omega arith),
-      above d a (omega arith),
-      above e a (omega arith),
-      above c b (omega arith),
-      above d b (omega arith),
-      above e b (omega arith),
-      above d c (omega arith),
-      above e c (omega arith),
-      above e d (omega arith),
+      eq-eqb a a refl,
+      eq-eqb b b refl,
+      eq-eqb c c refl,
+      eq-eqb d d refl,
+      eq-eqb e e refl,
+      ne-eqb a b (λ x. omega arith),
+      ne-eqb a c (λ x. omega arith),
+      ne-eqb a d (λ x. omega arith),
+      ne-eqb a e (λ x. omega arith),
+      ne-eqb b c (λ x. omega arith),
+      ne-eqb b d (λ x. omega arith),
+      ne-eqb b e (λ x. omega arith),
+      ne-eqb c d (λ x. omega arith),
+      ne-eqb c e (λ x. omega arith),
+      ne-eqb d e (λ x. omega arith),
+      ne-eqb b a (λ x. omega arith),
+      ne-eqb c a (λ x. omega arith),
+      ne-eqb d a (λ x. omega arith),
+      ne-eqb e a (λ x. omega arith),
+      ne-eqb c b (λ x. omega arith),
+      ne-eqb d b (λ x. omega arith),
+      ne-eqb e b (λ x. omega arith),
+      ne-eqb d c (λ x. omega arith),
+      ne-eqb e c (λ x. omega arith),
+      ne-eqb e d (λ x. omega arith),
     )
     refl
 
