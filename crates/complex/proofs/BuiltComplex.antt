@@ -18,18 +18,17 @@ use Rattle.lists.proofs.Sorting.{sort-rising, sort-mem, rising-ascending, risin
 use Rattle.complex.specs.declared.Counts.{Counts}
 use Rattle.complex.specs.declared.numbering.Face.{Face}
 use Rattle.complex.specs.declared.numbering.Face.the-variants.{Edge, Triangle, Tet}
-use Rattle.complex.specs.Complex.{faces, edges, triangles, triToPents, edgeToTris, edgeToPents}
+use Rattle.complex.specs.Incidence.{Tens, Simplices, Lie}
+use Rattle.complex.specs.Complex.{numbersOf, edges, triangles, triToPents, edgeToTris, edgeToPents}
 use Rattle.complex.specs.Builder.{pentachorons, sortedPents, offence, isShort, checkOf, builtOf, countsOf, Lists, written}
-use Rattle.complex.specs.Check.{givenOf, roomFor, answerFor, sameCounts, answers, beginAll, isBuilt, hasFaces, holds}
+use Rattle.complex.specs.Check.{pentsIn, edgesIn, trianglesIn, givenOf, roomFor, answerFor, sameCounts, answers, beginAll, isBuilt, hasFaces, holds}
 use Rattle.complex.proofs.Sorted.{sorted-wide-all, length-sorted-all, sorted-is, sorted-of}
 use Rattle.complex.proofs.Offences.{or-false, offence-done, once-of, check-done, done-check, length-passed}
 use Rattle.complex.proofs.Laws.{all-sorted, not-large, all-below, no-repeat, no-offence}
-use Rattle.complex.proofs.FaceLists.{HasFaces, has-says}
+use Rattle.complex.proofs.FaceLists.{HasFaces, has-says, has-rows}
+use Rattle.complex.proofs.Lying.{Sorted}
+use Rattle.complex.proofs.Incident.{edge-numbers, triangle-numbers, simplices-of, lie-of}
 use Rattle.complex.proofs.Rises.{RisesBelow, AllRise}
-
--- the pentachorons of a complex: the rows of its sorted list
-abbrev pub pentsOf : Counts → Lists → List (List ℕ)
-pentsOf c l = rows 5 (c .pentachorons) (l .pents)
 
 -- what holds of the counts and lists of a built complex
 pub record IsBuilt (c : Counts) (l : Lists) : Type 0 where
@@ -37,13 +36,13 @@ pub record IsBuilt (c : Counts) (l : Lists) : Type 0 where
   pub few-vertices : c .vertices ≤ 4096
   pub few : c .pentachorons ≤ 8192
   pub long : 5 * c .pentachorons ≤ length (l .pents)
-  pub rise : AllRise (c .vertices) (pentsOf c l)
-  pub has-edges : HasFaces Edge (pentsOf c l) (c .edges) (l .edges)
-  pub has-triangles : HasFaces Triangle (pentsOf c l) (c .triangles) (l .triangles)
-  pub has-tets : HasFaces Tet (pentsOf c l) (c .tets) (l .tets)
-  pub tri-to-pents : holds (pentsOf c l) (triangles (pentsOf c l)) (l .triToPents) (l .triToPentsStarts) ≡ true
-  pub edge-to-tris : holds (triangles (pentsOf c l)) (edges (pentsOf c l)) (l .edgeToTris) (l .edgeToTrisStarts) ≡ true
-  pub edge-to-pents : holds (pentsOf c l) (edges (pentsOf c l)) (l .edgeToPents) (l .edgeToPentsStarts) ≡ true
+  pub rise : AllRise (c .vertices) (pentsIn c (l .pents))
+  pub has-edges : HasFaces Edge (pentsIn c (l .pents)) (c .edges) (l .edges)
+  pub has-triangles : HasFaces Triangle (pentsIn c (l .pents)) (c .triangles) (l .triangles)
+  pub has-tets : HasFaces Tet (pentsIn c (l .pents)) (c .tets) (l .tets)
+  pub tri-to-pents : holds (pentsIn c (l .pents)) (triangles (pentsIn c (l .pents))) (l .triToPents) (l .triToPentsStarts) ≡ true
+  pub edge-to-tris : holds (triangles (pentsIn c (l .pents))) (edges (pentsIn c (l .pents))) (l .edgeToTris) (l .edgeToTrisStarts) ≡ true
+  pub edge-to-pents : holds (pentsIn c (l .pents)) (edges (pentsIn c (l .pents))) (l .edgeToPents) (l .edgeToPentsStarts) ≡ true
 
 -- ---- counts
 
@@ -80,13 +79,13 @@ module _ (c : Counts) (l : Lists) (long : 5 * c .pentachorons ≤ length (l .pen
   pub given-long : length (givenOf c l) ≡ 5 * c .pentachorons
   given-long = length-take-le (5 * c .pentachorons) (l .pents) long
 
-  given-rows : pentachorons (givenOf c l) ≡ pentsOf c l
+  pub given-rows : pentachorons (givenOf c l) ≡ pentsIn c (l .pents)
   given-rows =
       let n : length (givenOf c l) / 5 ≡ c .pentachorons = omega (arith, given-long) in
       rw n (rows-take 5 (c .pentachorons) (5 * c .pentachorons) (l .pents) (omega arith) long)
 
   -- the sorted pentachorons are the rows where these begin the list
-  given-sorted : take (length (flat (sortedPents (givenOf c l)))) (l .pents) ≡ flat (sortedPents (givenOf c l)) → sortedPents (givenOf c l) ≡ pentsOf c l
+  given-sorted : take (length (flat (sortedPents (givenOf c l)))) (l .pents) ≡ flat (sortedPents (givenOf c l)) → sortedPents (givenOf c l) ≡ pentsIn c (l .pents)
   given-sorted front =
       let n : length (sortedPents (givenOf c l)) ≡ c .pentachorons = length-sorted-all (givenOf c l) ∙ omega (arith, given-long) in
       let m : length (flat (sortedPents (givenOf c l))) ≡ 5 * c .pentachorons = length-flat 5 (sortedPents (givenOf c l)) (sorted-wide-all (givenOf c l)) ∙ ap (λ (k : ℕ). 5 * k) n in
@@ -96,8 +95,8 @@ module _ (c : Counts) (l : Lists) (long : 5 * c .pentachorons ≤ length (l .pen
       ∙ rows-take 5 (c .pentachorons) (5 * c .pentachorons) (l .pents) (omega arith) long
 
   -- rows that rise are sorted
-  rise-sorted : AllRise (c .vertices) (pentsOf c l) → sortedPents (givenOf c l) ≡ pentsOf c l
-  rise-sorted up = sorted-is (givenOf c l) ∙ ap (map sort) given-rows ∙ all-sorted (pentsOf c l) (λ p m. rising-ascending p (up p m .0))
+  rise-sorted : AllRise (c .vertices) (pentsIn c (l .pents)) → sortedPents (givenOf c l) ≡ pentsIn c (l .pents)
+  rise-sorted up = sorted-is (givenOf c l) ∙ ap (map sort) given-rows ∙ all-sorted (pentsIn c (l .pents)) (λ p m. rising-ascending p (up p m .0))
 
 -- ---- the lists
 
@@ -159,7 +158,7 @@ module _ (c : Counts) (l : Lists) where
       let v = or-false (eqb (c .vertices) 0) (ltb 4096 (c .vertices)) (d .0) in
       let some : c .vertices ≡ 0 → ⊥ = eqb-false _ _ (v .0) in
       let b = begin-all (written (sortedPents given)) l (k .1) in
-      let sorted : sortedPents given ≡ pentsOf c l = given-sorted c l long (said (begins-says _ (l .pents)) (b .pents)) in
+      let sorted : sortedPents given ≡ pentsIn c (l .pents) = given-sorted c l long (said (begins-says _ (l .pents)) (b .pents)) in
       let same = same-is c (countsOf (c .vertices) (sortedPents given)) (done .1) in
       record {
         some-vertices = positive some;
@@ -185,15 +184,15 @@ module _ (c : Counts) (l : Lists) where
           subst (RisesBelow (c .vertices)) (w .2) (sort-rising (w .0) (once-of (w .0) (ok .1)), λ v k. not-large (c .vertices) (w .0) (ok .0) (sort-mem (w .0) k))
 
   module _ (b : IsBuilt c l) where
-    counts-same : sameCounts c (countsOf (c .vertices) (pentsOf c l)) ≡ true
+    counts-same : sameCounts c (countsOf (c .vertices) (pentsIn c (l .pents))) ≡ true
     unfolding countsOf
     counts-same =
-        is-same c (countsOf (c .vertices) (pentsOf c l)) refl (sym (length-rows 5 (c .pentachorons) (l .pents))) (b .has-edges .count) (b .has-triangles .count) (b .has-tets .count)
+        is-same c (countsOf (c .vertices) (pentsIn c (l .pents))) refl (sym (length-rows 5 (c .pentachorons) (l .pents))) (b .has-edges .count) (b .has-triangles .count) (b .has-tets .count)
 
-    lists-begin : beginAll (written (pentsOf c l)) l ≡ true
+    lists-begin : beginAll (written (pentsIn c (l .pents))) l ≡ true
     unfolding written holds triToPents edgeToTris edgeToPents
     lists-begin =
-        let ps = pentsOf c l in
+        let ps = pentsIn c (l .pents) in
         let m : length (flat ps) ≡ 5 * c .pentachorons = length-flat 5 ps (rows-wide 5 (c .pentachorons) (l .pents) (b .long)) ∙ ap (λ (k : ℕ). 5 * k) (length-rows 5 (c .pentachorons) (l .pents)) in
         let front : take (length (flat ps)) (l .pents) ≡ flat ps = ap (λ (k : ℕ). take k (l .pents)) m ∙ sym (flat-rows 5 (c .pentachorons) (l .pents) (b .long)) in
         let t = and-true _ _ (b .tri-to-pents) in
@@ -217,7 +216,7 @@ module _ (c : Counts) (l : Lists) where
   unfolding isBuilt
   backward b =
       let given = givenOf c l in
-      let sorted : sortedPents given ≡ pentsOf c l = rise-sorted c l (b .long) (b .rise) in
+      let sorted : sortedPents given ≡ pentsIn c (l .pents) = rise-sorted c l (b .long) (b .rise) in
       let same : sameCounts c (countsOf (c .vertices) (sortedPents given)) ≡ true = rw sorted (counts-same b) in
       let begun : beginAll (written (sortedPents given)) l ≡ true = rw sorted (lists-begin b) in
       rw (le-leb _ _ (b .long), done-answers (checkOf (c .vertices) given (roomFor (c .pentachorons))) (c .vertices) given c done same, begun) refl
@@ -233,9 +232,48 @@ module _ (c : Counts) (l : Lists) where
           (rw (ne-eqb (c .vertices) 0 (λ e. omega (arith, b .some-vertices)), le-ltb 4096 (c .vertices) (b .few-vertices)) refl)
           (rw (eq-eqb _ _ whole, le-ltb 40960 (length (givenOf c l)) (omega (arith, long, b .few))) refl)
           (rw n (room-enough (c .pentachorons)))
-          (rw (given-rows c l (b .long)) (no-offence (c .vertices) 0 (pentsOf c l)
+          (rw (given-rows c l (b .long)) (no-offence (c .vertices) 0 (pentsIn c (l .pents))
           (λ p m. let r = b .rise p m in (all-below (c .vertices) p (r .1), no-repeat p (rising-once p (r .0))))))
 
 -- a complex is built where all this holds
 pub built-says : (c : Counts) (l : Lists) → Says (IsBuilt c l) (isBuilt c l)
 built-says c l = says-by (isBuilt c l) (forward c l) (backward c l)
+
+-- ---- what follows
+
+module _ (c : Counts) (l : Lists) (b : IsBuilt c l) where
+  -- the pentachorons are sorted
+  pub built-sorted : Sorted (pentsIn c (l .pents))
+  built-sorted p m = b .rise p m .0
+
+  pub built-wide : Wide 5 (pentsIn c (l .pents))
+  built-wide = rows-wide 5 (c .pentachorons) (l .pents) (b .long)
+
+  -- the rows of the lists are the faces
+  pub built-edges : edgesIn c (l .edges) ≡ edges (pentsIn c (l .pents))
+  built-edges = has-rows Edge (pentsIn c (l .pents)) (c .edges) (l .edges) (b .has-edges)
+
+  pub built-triangles : trianglesIn c (l .triangles) ≡ triangles (pentsIn c (l .pents))
+  built-triangles = has-rows Triangle (pentsIn c (l .pents)) (c .triangles) (l .triangles) (b .has-triangles)
+
+  -- all that the incidence functions ask
+  pub built-tri-to-pents : holds (pentsIn c (l .pents)) (trianglesIn c (l .triangles)) (l .triToPents) (l .triToPentsStarts) ≡ true
+  built-tri-to-pents = rw built-triangles (b .tri-to-pents)
+
+  pub built-edge-to-tris : holds (trianglesIn c (l .triangles)) (edgesIn c (l .edges)) (l .edgeToTris) (l .edgeToTrisStarts) ≡ true
+  built-edge-to-tris = rw (built-triangles, built-edges) (b .edge-to-tris)
+
+  pub built-edge-to-pents : holds (pentsIn c (l .pents)) (edgesIn c (l .edges)) (l .edgeToPents) (l .edgeToPentsStarts) ≡ true
+  built-edge-to-pents = rw built-edges (b .edge-to-pents)
+
+  pub built-pent-edges : (numbers : List ℕ) → begins (numbersOf Edge (pentsIn c (l .pents))) numbers ≡ true → Tens (edgesIn c (l .edges)) 2 (c .pentachorons) (l .pents) numbers
+  built-pent-edges numbers e = record { room = b .long; noted = rw (built-edges, ← edge-numbers (pentsIn c (l .pents))) e }
+
+  pub built-pent-tris : (numbers : List ℕ) → begins (numbersOf Triangle (pentsIn c (l .pents))) numbers ≡ true → Tens (trianglesIn c (l .triangles)) 3 (c .pentachorons) (l .pents) numbers
+  built-pent-tris numbers e = record { room = b .long; noted = rw (built-triangles, ← triangle-numbers (pentsIn c (l .pents))) e }
+
+  pub built-simplices : Simplices (pentsIn c (l .pents)) (trianglesIn c (l .triangles))
+  built-simplices = rw built-triangles (simplices-of (pentsIn c (l .pents)) built-sorted)
+
+  pub built-lie : Lie (pentsIn c (l .pents)) (trianglesIn c (l .triangles))
+  built-lie = rw built-triangles (lie-of (pentsIn c (l .pents)))

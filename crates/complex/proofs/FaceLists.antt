@@ -6,7 +6,7 @@ use mathlib.Core.List.{List, [], _++_, foldl, foldl-append}
 use native.Mathlib.Nat.{mul-le-mul-left}
 use native.Mathlib.Omega.{arith}
 use lib.Dec.{eqb}
-use lib.ListN.{length, take, drop, replicate, take-append-drop}
+use lib.ListN.{length, take, drop, replicate}
 use Rattle.lists.specs.Lists.{gather}
 use Rattle.lists.specs.Keys.{meet, firsts}
 use Rattle.lists.specs.Rows.{flat, rows, Wide, over, begins}
@@ -15,7 +15,7 @@ use Rattle.lists.proofs.Tests.{Says, eqb-says, and-says, says-same, fails, said
 use Rattle.lists.proofs.Elements.{gather-append}
 use Rattle.lists.proofs.Keys.{firsts-room}
 use Rattle.lists.proofs.Choices.{combos-length}
-use Rattle.lists.proofs.Rows.{length-flat, rows-flat, rows-split, over-take, begins-says, begins-long}
+use Rattle.lists.proofs.Rows.{length-flat, rows-split, rows-begins, over-take, begins-says, begins-long}
 use Rattle.lists.proofs.Chains.{indexed-none, met-count, met-rows, met-numbers}
 use Rattle.lists.proofs.Matches.{stand-front}
 use Rattle.complex.specs.declared.numbering.Face.{Face}
@@ -48,11 +48,7 @@ module _ (f : Face) (ps : List (List ℕ)) (n : ℕ) (list : List ℕ) where
 
   -- the rows of a list that has them are the faces
   pub has-rows : HasFaces f ps n list → rows (widthOf f) n list ≡ faces f ps
-  has-rows h =
-      let L = length (flat (faces f ps)) in
-      ap (λ (m : ℕ). rows (widthOf f) m list) (h .count)
-      ∙ ap (rows (widthOf f) (length (faces f ps))) (sym (take-append-drop L list) ∙ ap (λ (l : List ℕ). l ++ drop L list) (h .front))
-      ∙ rows-flat (widthOf f) (faces f ps) (drop L list) (faces-wide f ps)
+  has-rows h = ap (λ (m : ℕ). rows (widthOf f) m list) (h .count) ∙ rows-begins (widthOf f) (faces f ps) list (faces-wide f ps) (h .front)
 
   pub has-room : HasFaces f ps n list → widthOf f * n ≤ length list
   has-room h =

@@ -22,7 +22,7 @@ use Rattle.complex.proofs.Lying.{Sorted, Keyed, faces-distinct, faces-h
 
 -- ---- edges of triangles within five vertices
 
-three-edges : (t : List ℕ) → length t ≡ 3 → length (combos t 2) ≡ 3
+pub three-edges : (t : List ℕ) → length t ≡ 3 → length (combos t 2) ≡ 3
 unfolding combos
 three-edges (a ∷ b ∷ c ∷ []) h = refl
 three-edges [] h = absurd (omega arith)
@@ -39,7 +39,7 @@ three-places : (q : ℕ) → q < 10 → length (getD edgePlaces q []) ≡ 3
 three-places q h =
     sym (getD-map length edgePlaces q [] 0 h) ∙ getD-replicate 10 q 3 0 h
 
-one-edge : (p : List ℕ) → length p ≡ 5 → (b i : ℕ) → b < 10 → i < 3 → getD (combos p 2) (getD (getD edgePlaces b []) i 0) [] ≡ getD (combos (getD (combos p 3) b []) 2) i []
+pub one-edge : (p : List ℕ) → length p ≡ 5 → (b i : ℕ) → b < 10 → i < 3 → getD (combos p 2) (getD (getD edgePlaces b []) i 0) [] ≡ getD (combos (getD (combos p 3) b []) 2) i []
 one-edge p h b i hb hi =
     sym (getD-map (λ j. getD (combos p 2) j []) (getD edgePlaces b []) i 0 [] (rw (three-places b hb) hi))
     ∙ ap (λ (r : List (List ℕ)). getD r i [])

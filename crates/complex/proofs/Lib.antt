@@ -6,9 +6,11 @@ pub mod TriangleEdges
 pub mod Lying
 pub mod FaceNumbers
 pub mod FaceLists
+pub mod Incident
 pub mod Whole
 pub mod Laws
 pub mod Rises
-pub mod BuiltComplex
 pub mod Holdings
+pub mod BuiltComplex
+pub mod Comparisons
 pub mod Pushing

@@ -16,8 +16,22 @@ use Rattle.complex.specs.declared.Built.the-variants.{Done, Refused}
 use Rattle.complex.specs.declared.numbering.Face.{Face}
 use Rattle.complex.specs.declared.numbering.Face.the-variants.{Edge, Triangle, Tet}
 use Rattle.complex.specs.declared.checks.Rooms.{Rooms}
-use Rattle.complex.specs.Complex.{faces, holding, numbersOf}
+use Rattle.complex.specs.Complex.{faces, edges, triangles, holding, numbersOf}
 use Rattle.complex.specs.Builder.{sortedPents, checkOf, builtOf, Lists, written}
+
+-- ---- the rows of the lent lists
+
+-- the pentachorons
+abbrev pub pentsIn : Counts → List ℕ → List (List ℕ)
+pentsIn c pents = rows 5 (c .pentachorons) pents
+
+-- the edges
+abbrev pub edgesIn : Counts → List ℕ → List (List ℕ)
+edgesIn c edges = rows 2 (c .edges) edges
+
+-- the triangles
+abbrev pub trianglesIn : Counts → List ℕ → List (List ℕ)
+trianglesIn c triangles = rows 3 (c .triangles) triangles
 
 -- ---- a built complex
 
@@ -84,7 +98,7 @@ allRise n (p ∷ ps) = rises n p && allRise n ps
 unfoldable pub hasPents : Counts → List ℕ → Bool
 hasPents c pents =
     not (eqb (c .vertices) 0) && leb (c .vertices) 4096 && leb (c .pentachorons) 8192 && leb (5 * c .pentachorons) (length pents)
-    && allRise (c .vertices) (rows 5 (c .pentachorons) pents)
+    && allRise (c .vertices) (pentsIn c pents)
 
 -- a list begins with the faces of a kind, and n is their count
 unfoldable pub hasFaces : Face → List (List ℕ) → ℕ → List ℕ → Bool
@@ -109,6 +123,10 @@ partLies rs s items ss j =
 unfoldable pub holds : List (List ℕ) → List (List ℕ) → List ℕ → List ℕ → Bool
 holds rs keys items ss = begins (flat (map (holding rs) keys)) items && begins (starts (map (holding rs) keys)) ss
 
+-- so do the three adjacency lists
+unfoldable pub hasAdjacency : List (List ℕ) → List ℕ → List ℕ → List ℕ → List ℕ → List ℕ → List ℕ → Bool
+hasAdjacency ps tp tps et ets ep eps = holds ps (triangles ps) tp tps && holds (triangles ps) (edges ps) et ets && holds ps (edges ps) ep eps
+
 -- ---- the answer
 
 -- 7 where the complex is not built, then 5 where there is not room for ten numbers a pentachoron
@@ -125,5 +143,5 @@ notedAfter (Outcome.Refused r) numbers old = old
 -- the check of a complex: the answer r, and the edge numbers and triangle numbers of its pentachorons
 pub record Checked (c : Counts) (l : Lists) (pe pt : List ℕ) (r : Outcome) (pe′ pt′ : List ℕ) : Type 0 where
   pub answered : r ≡ checkedOf c l (length pe) (length pt)
-  pub edges : pe′ ≡ notedAfter r (numbersOf Edge (sortedPents (givenOf c l))) pe
-  pub triangles : pt′ ≡ notedAfter r (numbersOf Triangle (sortedPents (givenOf c l))) pt
+  pub edges : pe′ ≡ notedAfter r (numbersOf Edge (pentsIn c (l .pents))) pe
+  pub triangles : pt′ ≡ notedAfter r (numbersOf Triangle (pentsIn c (l .pents))) pt

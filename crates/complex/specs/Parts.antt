@@ -4,7 +4,7 @@ use mathlib.Core.Path.{_≡_}
 use mathlib.Core.Bool.{true}
 use mathlib.Core.List.{List, [], _∷_, map, List·Memᴰ}
 use lib.ListN.{length, getD}
-use Rattle.lists.specs.Lists.{Once}
+use Rattle.lists.specs.Lists.{Once, Rising}
 use Rattle.lists.specs.Keys.{find}
 use Rattle.lists.specs.Rows.{flat, rows, over, begins}
 use Rattle.lists.specs.Groups.{Below}
@@ -12,7 +12,9 @@ use Rattle.complex.specs.declared.numbering.Face.{Face}
 use Rattle.complex.specs.declared.numbering.Face.the-variants.{Edge, Triangle}
 use Rattle.complex.specs.Complex.{widthOf, countOf, metFaces, faces, numbersOf, holding}
 use Rattle.complex.specs.declared.holding.Shape.{Shape}
+use Rattle.complex.specs.declared.Counts.{Counts}
 use Rattle.complex.specs.Builder.{Lists, pentachorons}
+use Rattle.complex.specs.Check.{pentsIn, hasFaces}
 
 -- whole pentachorons, and room for the links of the chains and the numbers of their faces
 pub record Searched (f : Face) (P pents next numbers : ℕ) : Type 0 where
@@ -128,3 +130,11 @@ pub record Holdable (keys : List ℕ) (k : Shape) (list : List ℕ) (s : Shape) 
   pub keys-room : k .width * k .count ≤ length keys
   pub rows-room : s .width * s .count ≤ length list
   pub counted : total ≡ length (flat (map (holding (rows (s .width) (s .count) list)) (rows (k .width) (k .count) keys)))
+
+-- the lists of faces are those of sorted pentachorons
+pub record Faced (c : Counts) (pents es ts : List ℕ) : Type 0 where
+  pub long : 5 * c .pentachorons ≤ length pents
+  pub few : c .pentachorons ≤ 8192
+  pub rise : (p : List ℕ) → List·Memᴰ p (pentsIn c pents) → Rising p
+  pub edges : hasFaces Edge (pentsIn c pents) (c .edges) es ≡ true
+  pub triangles : hasFaces Triangle (pentsIn c pents) (c .triangles) ts ≡ true

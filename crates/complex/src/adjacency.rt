@@ -22,7 +22,7 @@ const TRI_EDGES: [[usize; 3]; 10] = [
 ];
 
 // The number of edge i of the triangle that is met as the k-th.
-fn edge_at(pent_edges: &[u32], k: usize, i: usize) -> u32
+pub fn edge_at(pent_edges: &[u32], k: usize, i: usize) -> u32
     requires { ⌜ (length (now «pent_edges») % 10 ≡ 0) × (k < length (now «pent_edges»)) × (i < 3) ⌝ }
     ensures { λ r. ⌜ r ≡ edgeAt (now («pent_edges» .entry)) k i ⌝ }
 {

@@ -1,14 +1,20 @@
 // The check behind refusal 7: counts and lists compared with what the builder answers and writes.
 use crate::Counts;
+use crate::holding::Shape;
+use crate::holding::is_holding;
 use crate::numbering::Face;
 use crate::numbering::has_faces;
+use lists::copy_row;
+use refusals::Outcome;
+use refusals::Refusal;
 ghost use mathlib.Core.Path.{_≡_};
 ghost use mathlib.Core.Bool.{true, _&&_};
 ghost use Prim.Native.Nat.{_+_, _*_, _/_, _≤_};
 ghost use lib.ListN.{length, take, drop};
 ghost use Rattle.lists.specs.Rows.{rows};
-ghost use Rattle.complex.specs.Check.{rises, allRise, hasPents, hasAllFaces};
-ghost use Rattle.complex.specs.Parts.{Scratch, Noted};
+ghost use Rattle.complex.specs.Builder.{lists};
+ghost use Rattle.complex.specs.Check.{pentsIn, isBuilt, rises, allRise, hasPents, hasAllFaces, hasAdjacency, Checked};
+ghost use Rattle.complex.specs.Parts.{Scratch, Noted, Faced};
 
 // Whether the vertices of the pentachoron at `at` rise, and the last is below n.
 fn rises_at(n: usize, pents: &[u32], at: usize) -> bool
@@ -76,7 +82,14 @@ fn has_all_faces(
     if !has_faces(Face::Tet, pents, counts.tets, tets, &mut next, pent_tris) {
         return false;
     }
-    if !has_faces(Face::Edge, pents, counts.edges, edges, &mut next, pent_edges) {
+    if !has_faces(
+        Face::Edge,
+        pents,
+        counts.edges,
+        edges,
+        &mut next,
+        pent_edges,
+    ) {
         return false;
     }
     has_faces(
@@ -87,4 +100,172 @@ fn has_all_faces(
         &mut next,
         pent_tris,
     )
+}
+
+// Whether the adjacency lists are those of the pentachorons and their faces.
+fn has_adjacency(
+    counts: Counts,
+    pents: &[u32],
+    edges: &[u32],
+    triangles: &[u32],
+    tri_to_pents_items: &[u32],
+    tri_to_pents_starts: &[u32],
+    edge_to_tris_items: &[u32],
+    edge_to_tris_starts: &[u32],
+    edge_to_pents_items: &[u32],
+    edge_to_pents_starts: &[u32],
+) -> bool
+    requires { ⌜ Faced counts (now pents) (now edges) (now triangles) ⌝ }
+    ensures { λ r. ⌜ r ≡ hasAdjacency (pentsIn counts (now (pents .entry))) (now («tri_to_pents_items» .entry)) (now («tri_to_pents_starts» .entry))
+        (now («edge_to_tris_items» .entry)) (now («edge_to_tris_starts» .entry)) (now («edge_to_pents_items» .entry)) (now («edge_to_pents_starts» .entry)) ⌝ }
+{
+    let met = 10 * counts.pentachorons;
+    let by_fives = Shape {
+        width: 5,
+        count: counts.pentachorons,
+    };
+    let by_twos = Shape {
+        width: 2,
+        count: counts.edges,
+    };
+    let by_threes = Shape {
+        width: 3,
+        count: counts.triangles,
+    };
+    if !is_holding(
+        triangles,
+        by_threes,
+        pents,
+        by_fives,
+        tri_to_pents_items,
+        tri_to_pents_starts,
+        met,
+    ) {
+        return false;
+    }
+    if !is_holding(
+        edges,
+        by_twos,
+        triangles,
+        by_threes,
+        edge_to_tris_items,
+        edge_to_tris_starts,
+        3 * counts.triangles,
+    ) {
+        return false;
+    }
+    is_holding(
+        edges,
+        by_twos,
+        pents,
+        by_fives,
+        edge_to_pents_items,
+        edge_to_pents_starts,
+        met,
+    )
+}
+
+// Whether counts and lists are what the builder answers and writes. The numbers of the edges and triangles of each pentachoron
+// are noted.
+fn is_built(
+    counts: Counts,
+    pents: &[u32],
+    edges: &[u32],
+    triangles: &[u32],
+    tets: &[u32],
+    tri_to_pents_items: &[u32],
+    tri_to_pents_starts: &[u32],
+    edge_to_tris_items: &[u32],
+    edge_to_tris_starts: &[u32],
+    edge_to_pents_items: &[u32],
+    edge_to_pents_starts: &[u32],
+    pent_edges: &mut [u32],
+    pent_tris: &mut [u32],
+) -> bool
+    requires { ⌜ (81920 ≤ length (now «pent_edges»)) × (81920 ≤ length (now «pent_tris»)) ⌝ }
+    ensures { λ r. ⌜ r ≡ isBuilt counts (lists (now (pents .entry)) (now (edges .entry)) (now (triangles .entry)) (now (tets .entry))
+        (now («tri_to_pents_items» .entry)) (now («tri_to_pents_starts» .entry)) (now («edge_to_tris_items» .entry)) (now («edge_to_tris_starts» .entry))
+        (now («edge_to_pents_items» .entry)) (now («edge_to_pents_starts» .entry))) ⌝ }
+    ensures { λ r. ⌜ (r ≡ true → Noted (pentsIn counts (now (pents .entry))) (now («pent_edges» .exit)) (now («pent_tris» .exit))) ⌝ }
+{
+    if !has_pents(counts, pents) {
+        return false;
+    }
+    let len = 5 * counts.pentachorons;
+    if !has_all_faces(
+        counts,
+        &pents[..len],
+        edges,
+        triangles,
+        tets,
+        pent_edges,
+        pent_tris,
+    ) {
+        return false;
+    }
+    has_adjacency(
+        counts,
+        pents,
+        edges,
+        triangles,
+        tri_to_pents_items,
+        tri_to_pents_starts,
+        edge_to_tris_items,
+        edge_to_tris_starts,
+        edge_to_pents_items,
+        edge_to_pents_starts,
+    )
+}
+
+// The check behind refusal 7, and the ten edge numbers and ten triangle numbers of each pentachoron. A refused call leaves both
+// lists as they were; otherwise the places that are not written are kept.
+pub fn check_built(
+    counts: Counts,
+    pents: &[u32],
+    edges: &[u32],
+    triangles: &[u32],
+    tets: &[u32],
+    tri_to_pents_items: &[u32],
+    tri_to_pents_starts: &[u32],
+    edge_to_tris_items: &[u32],
+    edge_to_tris_starts: &[u32],
+    edge_to_pents_items: &[u32],
+    edge_to_pents_starts: &[u32],
+    pent_edges: &mut [u32],
+    pent_tris: &mut [u32],
+) -> Outcome
+    ensures { λ r. ⌜ Checked counts (lists (now (pents .entry)) (now (edges .entry)) (now (triangles .entry)) (now (tets .entry))
+        (now («tri_to_pents_items» .entry)) (now («tri_to_pents_starts» .entry)) (now («edge_to_tris_items» .entry)) (now («edge_to_tris_starts» .entry))
+        (now («edge_to_pents_items» .entry)) (now («edge_to_pents_starts» .entry)))
+        (now («pent_edges» .entry)) (now («pent_tris» .entry)) r (now («pent_edges» .exit)) (now («pent_tris» .exit)) ⌝ }
+{
+    let mut edge_numbers = [0u32; 81920];
+    let mut tri_numbers = [0u32; 81920];
+    if !is_built(
+        counts,
+        pents,
+        edges,
+        triangles,
+        tets,
+        tri_to_pents_items,
+        tri_to_pents_starts,
+        edge_to_tris_items,
+        edge_to_tris_starts,
+        edge_to_pents_items,
+        edge_to_pents_starts,
+        &mut edge_numbers,
+        &mut tri_numbers,
+    ) {
+        return Outcome::Refused(Refusal::NotBuilt);
+    }
+    let met = 10 * counts.pentachorons;
+    if pent_edges.len() < met {
+        return Outcome::Refused(Refusal::ShortRoom);
+    }
+    if pent_tris.len() < met {
+        return Outcome::Refused(Refusal::ShortRoom);
+    }
+    copy_row(pent_edges, 0, &edge_numbers[..met]);
+    copy_row(pent_tris, 0, &tri_numbers[..met]);
+    Outcome::Done
 }

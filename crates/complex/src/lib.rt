@@ -1,13 +1,27 @@
-// The complex of a list of pentachorons: faces numbered by first meeting, and adjacency lists.
+// The complex of a list of pentachorons: faces numbered by first meeting, adjacency lists, and incidence.
 mod adjacency;
 mod builder;
 mod checks;
 mod comparison;
 mod holding;
+mod incidence;
 mod numbering;
 mod sorting;
 
 use checks::Rooms;
+pub use comparison::check_built;
+pub use incidence::EdgeNumber;
+pub use incidence::Opposite;
+pub use incidence::PentachoronNumber;
+pub use incidence::TriangleEdges;
+pub use incidence::TriangleNumber;
+pub use incidence::opposite_local_indices;
+pub use incidence::pent_edge_indices;
+pub use incidence::pent_tri_indices;
+pub use incidence::pents_of_edge;
+pub use incidence::pents_of_triangle;
+pub use incidence::tri_edge_indices;
+pub use incidence::tris_of_edge;
 use refusals::Outcome;
 use refusals::Refusal;
 ghost use mathlib.Core.Path.{_≡_};

@@ -212,6 +212,12 @@ pub over-begins : (new xs : List ℕ) → take (length new) xs ≡ new → over 
 unfolding over
 over-begins new xs e = ap (λ (l : List ℕ). l ++ drop (length new) xs) (sym e) ∙ take-append-drop (length new) xs
 
+-- the rows of a list that begins with them
+pub rows-begins : (w : ℕ) (xs : List (List ℕ)) (l : List ℕ) → Wide w xs → take (length (flat xs)) l ≡ flat xs → rows w (length xs) l ≡ xs
+rows-begins w xs l wide e =
+    let n = length (flat xs) in
+    ap (rows w (length xs)) (sym (take-append-drop n l) ∙ ap (λ (k : List ℕ). k ++ drop n l) e) ∙ rows-flat w xs (drop n l) wide
+
 -- what is written over a list begins it
 pub begins-over : (new old xs : List ℕ) → xs ≡ over new old → begins new xs ≡ true
 begins-over new old xs e = passes (begins-says new xs) (ap (take (length new)) e ∙ over-take new old (length new) refl)

@@ -53,9 +53,9 @@ same-length-5 c = search needs
 returns-3 : tie.Need-returns-3
 unfolding hasAllFaces
 returns-3 c = (
-      rw (sym (c .before .before .before .before .before .before .before .before .before .before .before .before .before .before .before .before .before .has-faces .ensures .0) ∙ not-false (c .before .before .before .before .before .before .before .before .before .before .before .before .before .before .before .before .before .has-faces .result) (c .before .before .before .before .before .before .before .before .before .before .before .before .before .if1 .left), sym (c .before .before .before .before .before .before .before .before .before .before .has-faces2 .ensures .0) ∙ not-false (c .before .before .before .before .before .before .before .before .before .before .has-faces2 .result) (c .before .before .before .before .before .before .if2 .left)) (c .before .before .before .has-faces3 .ensures .0),
-      λ t. record { edges = begins-over _ _ _ (c .before .before .before .before .before .before .before .before .before .before .has-faces2 .ensures .1 (not-false (c .before .before .before .before .before .before .before .before .before .before .has-faces2 .result) (c .before .before .before .before .before .before .if2 .left))); triangles = begins-over _ _ _ (c .before .before .before .has-faces3 .ensures .1 t) },
-    )
+  rw (sym (c .before .before .before .before .before .before .before .before .before .before .before .before .before .before .before .before .before .has-faces .ensures .0) ∙ not-false (c .before .before .before .before .before .before .before .before .before .before .before .before .before .before .before .before .before .has-faces .result) (c .before .before .before .before .before .before .before .before .before .before .before .before .before .if1 .left), sym (c .before .before .before .before .before .before .before .before .before .before .has-faces2 .ensures .0) ∙ not-false (c .before .before .before .before .before .before .before .before .before .before .has-faces2 .result) (c .before .before .before .before .before .before .if2 .left)) (c .before .before .before .has-faces3 .ensures .0),
+  λ t. record { edges = begins-over _ _ _ (c .before .before .before .before .before .before .before .before .before .before .has-faces2 .ensures .1 (not-false (c .before .before .before .before .before .before .before .before .before .before .has-faces2 .result) (c .before .before .before .before .before .before .if2 .left))); triangles = begins-over _ _ _ (c .before .before .before .has-faces3 .ensures .1 t) },
+)
 
 pub has-all-faces-spec : {M : Type 1} → statement M
 has-all-faces-spec =
