@@ -22,7 +22,7 @@ use Rattle.complex.specs.declared.numbering.Face.the-variants.{Edge, Tri
 use Rattle.complex.specs.Complex.{edges, triangles, metFaces, facesOf, numbersOf, holding, rowNumbers, triToPents, edgeToTris, edgeToPents}
 use Rattle.complex.specs.Check.{holds}
 use Rattle.complex.specs.Parts.{edgePlaces, edgeAt}
-use Rattle.complex.specs.Incidence.{Tens, Simplices, Lie, oppositeIndices, opposites}
+use Rattle.complex.specs.Incidence.{Tens, Simplices, Lie, oppositeIndices}
 use Rattle.complex.proofs.Meetings.{count-faces}
 use Rattle.complex.proofs.TriangleEdges.{place-below}
 use Rattle.complex.proofs.Lying.{Sorted, faces-distinct, faces-only, face-rising, mem-holding, holding-mem}
@@ -171,6 +171,21 @@ two-of (a ∷ b ∷ []) h = refl
 two-of [] h = absurd (omega arith)
 two-of (a ∷ []) h = absurd (omega arith)
 two-of (a ∷ b ∷ c ∷ l) h = absurd (omega arith)
+
+-- the local indices of the two vertices that are not in it, for each of the ten triangles of a pentachoron
+abbrev opposites : List (List ℕ)
+opposites =
+    (3 ∷ 4 ∷ [])
+    ∷ (2 ∷ 4 ∷ [])
+    ∷ (2 ∷ 3 ∷ [])
+    ∷ (1 ∷ 4 ∷ [])
+    ∷ (1 ∷ 3 ∷ [])
+    ∷ (1 ∷ 2 ∷ [])
+    ∷ (0 ∷ 4 ∷ [])
+    ∷ (0 ∷ 3 ∷ [])
+    ∷ (0 ∷ 2 ∷ [])
+    ∷ (0 ∷ 1 ∷ [])
+    ∷ []
 
 -- the table of opposite vertices is right
 five-opposites : (a b c d e : ℕ) → a < b → b < c → c < d → d < e → map (oppositeIndices (a ∷ b ∷ c ∷ d ∷ e ∷ [])) (combos (a ∷ b ∷ c ∷ d ∷ e ∷ []) 3) ≡ opposites

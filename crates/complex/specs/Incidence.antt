@@ -42,18 +42,3 @@ indexList r = r .l ∷ r .m ∷ []
 -- the local indices, ascending, of the vertices of p that are not in t
 unfoldable pub oppositeIndices : List ℕ → List ℕ → List ℕ
 oppositeIndices p t = keep (λ v. not (among (getD p v 0) t)) (upto (length p))
-
--- those of the ten triangles of a pentachoron
-abbrev pub opposites : List (List ℕ)
-opposites =
-    (3 ∷ 4 ∷ [])
-    ∷ (2 ∷ 4 ∷ [])
-    ∷ (2 ∷ 3 ∷ [])
-    ∷ (1 ∷ 4 ∷ [])
-    ∷ (1 ∷ 3 ∷ [])
-    ∷ (1 ∷ 2 ∷ [])
-    ∷ (0 ∷ 4 ∷ [])
-    ∷ (0 ∷ 3 ∷ [])
-    ∷ (0 ∷ 2 ∷ [])
-    ∷ (0 ∷ 1 ∷ [])
-    ∷ []

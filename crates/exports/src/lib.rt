@@ -1,5 +1,6 @@
 // The library's functions for C and Rust to call, on numbers and slices alone.
 use complex::Counts;
+use complex::check_built;
 use complex::from_pentachorons;
 use geometry::cofactor_6x6;
 use lorentzian::all_lorentzian_dihedrals;
@@ -16,7 +17,7 @@ ghost use Rattle.fdlibm.specs.Acos.{acosOf};
 ghost use Rattle.fdlibm.specs.Acosh.{acoshOf};
 ghost use Rattle.fdlibm.specs.Asinh.{asinhOf};
 ghost use Rattle.complex.specs.Builder.{lists};
-ghost use Rattle.exports.specs.Complexes.{countsOfList, countsList, Built};
+ghost use Rattle.exports.specs.Complexes.{countsOfList, countsList, Built, Checked};
 ghost use Rattle.geometry.specs.CayleyMenger.{cm, cofactors};
 ghost use Rattle.geometry.specs.Answer as Cofactor;
 ghost use Rattle.lorentzian.specs.Triangle.{areaSq, areaSqGrad, gradOutcome, gradAfter};
@@ -259,6 +260,45 @@ pub extern "C" fn cjapthumi_from_pentachorons(
     *counts = counts_list(built.counts_or(counts_of(*counts)));
     *place = built.place();
     built.number()
+}
+
+#[no_mangle]
+pub extern "C" fn cjapthumi_check_built(
+    counts: &[usize; 5],
+    pents: &[u32],
+    edges: &[u32],
+    triangles: &[u32],
+    tets: &[u32],
+    tri_to_pents_items: &[u32],
+    tri_to_pents_starts: &[u32],
+    edge_to_tris_items: &[u32],
+    edge_to_tris_starts: &[u32],
+    edge_to_pents_items: &[u32],
+    edge_to_pents_starts: &[u32],
+    pent_edges: &mut [u32],
+    pent_tris: &mut [u32],
+) -> u32
+    ensures { λ r. ⌜ Checked (now (counts .entry)) (lists (now (pents .entry)) (now (edges .entry)) (now (triangles .entry)) (now (tets .entry))
+        (now («tri_to_pents_items» .entry)) (now («tri_to_pents_starts» .entry)) (now («edge_to_tris_items» .entry)) (now («edge_to_tris_starts» .entry))
+        (now («edge_to_pents_items» .entry)) (now («edge_to_pents_starts» .entry)))
+        (now («pent_edges» .entry)) (now («pent_tris» .entry)) r (now («pent_edges» .exit)) (now («pent_tris» .exit)) ⌝ }
+{
+    let outcome = check_built(
+        counts_of(*counts),
+        pents,
+        edges,
+        triangles,
+        tets,
+        tri_to_pents_items,
+        tri_to_pents_starts,
+        edge_to_tris_items,
+        edge_to_tris_starts,
+        edge_to_pents_items,
+        edge_to_pents_starts,
+        pent_edges,
+        pent_tris,
+    );
+    outcome.number()
 }
 
 // Five numbers as counts.
