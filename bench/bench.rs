@@ -1,4 +1,5 @@
-//! Times our from_pentachorons beside the Rust's on the same inputs or, with the argument `stack`, measures the stack of our calls.
+//! Times our from_pentachorons beside the Rust's on the same inputs and our check_built beside the Rust's deficits or, with the argument `stack`, measures the stack of our calls.
+mod check;
 #[path = "../oracle/complex/ours.rs"]
 mod ours;
 mod stack;
@@ -59,6 +60,22 @@ fn summary(mut times: Vec<f64>) -> (f64, f64) {
     (times[times.len() / 2], times[0])
 }
 
+/// The heading of a table of times.
+fn print_heading(title: &str) {
+    println!("{title}, milliseconds, median and least of {REPETITIONS}; the ratio is Rust/ours of both");
+    println!("{:<28}{:>10}{:>10}{:>10}{:>10}{:>8}{:>8}", "", "ours", "least", "Rust", "least", "ratio", "least");
+}
+
+/// A line with the times of both.
+fn print_times(name: &str, ours: Vec<f64>, rust: Vec<f64>) {
+    let ((ours, ours_least), (rust, rust_least)) = (summary(ours), summary(rust));
+    println!(
+        "{name:<28}{ours:>10.2}{ours_least:>10.2}{rust:>10.2}{rust_least:>10.2}{:>8.2}{:>8.2}",
+        rust / ours,
+        rust_least / ours_least
+    );
+}
+
 /// Times both on an input in turn and prints a line; the Rust's conversion to usize and the release of its complex aren't timed.
 fn compare(name: &str, complex: Complex) {
     let (n_vertices, pents) = (complex.0, as_rust(&complex.1));
@@ -72,18 +89,12 @@ fn compare(name: &str, complex: Complex) {
         let sizes = [complex.edges.len(), complex.triangles.len(), complex.tets.len()];
         assert_eq!((number, &prepared.counts[2..]), (0, &sizes[..]), "{name}: the counts differ");
     }
-    let ((ours, ours_least), (rust, rust_least)) = (summary(ours), summary(rust));
-    println!(
-        "{name:<28}{ours:>10.2}{ours_least:>10.2}{rust:>10.2}{rust_least:>10.2}{:>8.2}{:>8.2}",
-        rust / ours,
-        rust_least / ours_least
-    );
+    print_times(name, ours, rust);
 }
 
 /// Times every input: the lattice in the order of the loops z, y, x, t, and pentachorons drawn at random.
 fn times() {
-    println!("milliseconds, median and least of {REPETITIONS}; the ratio is Rust/ours of both");
-    println!("{:<28}{:>10}{:>10}{:>10}{:>10}{:>8}{:>8}", "", "ours", "least", "Rust", "least", "ratio", "least");
+    print_heading("from_pentachorons");
     compare("lattice 5, 4: 7680 pents", lattice(5, 4));
     for n_vertices in [4_096, 1_000, 300, 60, 12] {
         compare(&format!("{MOST_PENTS} pents, {n_vertices} vertices"), random(n_vertices));
@@ -94,7 +105,10 @@ fn times() {
 fn main() -> ExitCode {
     let arguments: Vec<String> = std::env::args().skip(1).collect();
     match arguments.iter().map(String::as_str).collect::<Vec<_>>()[..] {
-        [] => times(),
+        [] => {
+            times();
+            check::times();
+        }
         ["stack"] => stack::measure(),
         _ => {
             eprintln!("usage: bench [stack]");

@@ -1,8 +1,12 @@
-//! The calls of from_pentachorons that are compared, frozen and timed: their lists, their inputs, and what they must answer.
+//! The calls of from_pentachorons and check_built that are compared, frozen and timed: their lists, their inputs, and what they must answer.
+pub mod checks;
 pub mod complexes;
+pub mod damages;
 pub mod defects;
 pub mod expected;
 pub mod lattice;
+mod orders;
+mod pieces;
 #[path = "../regge/random.rs"]
 pub mod random;
 

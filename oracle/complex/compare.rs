@@ -1,4 +1,6 @@
-//! Compares our library's from_pentachorons with the Rust's, and its refusals with their table.
+//! Compares our library's from_pentachorons with the Rust's and its refusals with their table, then its check_built with the definition.
+mod compare_checks;
+mod differences;
 mod guarded;
 mod ours;
 
@@ -7,13 +9,11 @@ use calls::expected::{self, Answer, Lent};
 use calls::lattice::lattice;
 use calls::random::Random;
 use calls::{Call, LISTS, as_rust, defects, rooms};
+use differences::Differences;
 use phyz_regge::foliation::foliated_hypercubic;
 use std::collections::HashSet;
 use std::process::ExitCode;
 use std::time::Instant;
-
-/// How many differing calls are printed.
-const PRINTED: u64 = 5;
 
 /// How many calls have a single defect; those with several share as many.
 const FLAWED: usize = 900;
@@ -39,7 +39,7 @@ struct Report {
     calls: u64,
     by_number: [u64; 6],
     by_rooms: [u64; ROOMS.len()],
-    differences: u64,
+    differences: Differences,
 }
 
 impl Report {
@@ -54,15 +54,7 @@ impl Report {
             differences.extend(describe(&ours, &expected));
         }
         if !differences.is_empty() {
-            self.differ(&format!("{}\n  {}", shown(call), differences.join("\n  ")));
-        }
-    }
-
-    /// Counts a difference and prints the first few.
-    fn differ(&mut self, text: &str) {
-        self.differences += 1;
-        if self.differences <= PRINTED {
-            println!("{text}");
+            self.differences.add(&format!("{}\n  {}", shown(call), differences.join("\n  ")));
         }
     }
 
@@ -99,7 +91,7 @@ impl Report {
             let ours = as_rust(&lattice(n_t, n_s).1);
             let rust = foliated_hypercubic(n_t, n_s).complex.pents;
             if ours.len() != rust.len() || HashSet::<_>::from_iter(ours) != HashSet::<_>::from_iter(rust) {
-                self.differ(&format!("lattice {n_t}, {n_s}: not the Rust's pentachorons"));
+                self.differences.add(&format!("lattice {n_t}, {n_s}: not the Rust's pentachorons"));
             }
         }
     }
@@ -141,11 +133,7 @@ fn describe(ours: &Answer, expected: &Answer) -> Vec<String> {
     differ("place", ours.place.to_string(), expected.place.to_string());
     differ("counts", format!("{:?}", ours.lent.counts), format!("{:?}", expected.lent.counts));
     for (list, (ours, expected)) in LISTS.iter().zip(ours.lent.lists.iter().zip(&expected.lent.lists)) {
-        let places: Vec<usize> = (0..ours.len()).filter(|&place| ours[place] != expected[place]).collect();
-        if let Some(&place) = places.first() {
-            let name = format!("{}, {} places, the first is {place}", list.name, places.len());
-            differ(&name, ours[place].to_string(), expected[place].to_string());
-        }
+        differences.extend(differences::of_lists(list.name, ours, expected));
     }
     differences
 }
@@ -158,6 +146,7 @@ fn main() -> ExitCode {
     report.complexes();
     report.defects();
     report.print();
-    println!("{} differences, {:.1} s", report.differences, begin.elapsed().as_secs_f64());
-    ExitCode::from(u8::from(report.differences != 0))
+    let differences = report.differences.0 + compare_checks::compare();
+    println!("{differences} differences, {:.1} s", begin.elapsed().as_secs_f64());
+    ExitCode::from(u8::from(differences != 0))
 }

@@ -50,8 +50,8 @@ fn starts(lists: &[Vec<usize>]) -> Vec<usize> {
 }
 
 /// The Rust's complex as ten lists.
-fn lists(complex: &SimplicialComplex) -> [Vec<usize>; 10] {
-    [
+pub fn lists(complex: &SimplicialComplex) -> [Vec<u32>; 10] {
+    let lists = [
         complex.pents.concat(),
         complex.edges.concat(),
         complex.triangles.concat(),
@@ -62,21 +62,33 @@ fn lists(complex: &SimplicialComplex) -> [Vec<usize>; 10] {
         starts(&complex.edge_to_tris),
         complex.edge_to_pents.concat(),
         starts(&complex.edge_to_pents),
-    ]
+    ];
+    lists.map(|list| list.into_iter().map(|number| number as u32).collect())
+}
+
+/// The numbers of the Rust's vertices, pentachorons, edges, triangles and tets.
+pub fn counts(complex: &SimplicialComplex) -> [usize; 5] {
+    let SimplicialComplex { n_vertices, pents, edges, triangles, tets, .. } = complex;
+    [*n_vertices, pents.len(), edges.len(), triangles.len(), tets.len()]
+}
+
+/// The Rust's complex, or the refusal.
+pub fn built(call: &Call) -> Result<SimplicialComplex, (u32, usize)> {
+    match refusal(call) {
+        Some(refusal) => Err(refusal),
+        None => Ok(SimplicialComplex::from_pentachorons(call.n_vertices, &as_rust(call.pents.as_chunks().0))),
+    }
 }
 
 /// What the call must give back, given the content before it.
 pub fn answer(call: &Call, mut lent: Lent) -> Answer {
-    if let Some((number, place)) = refusal(call) {
-        return Answer { number, place, lent };
-    }
-    let pents = as_rust(call.pents.as_chunks().0);
-    let complex = SimplicialComplex::from_pentachorons(call.n_vertices, &pents);
+    let complex = match built(call) {
+        Ok(complex) => complex,
+        Err((number, place)) => return Answer { number, place, lent },
+    };
     for (list, numbers) in lent.lists.iter_mut().zip(lists(&complex)) {
-        let numbers: Vec<u32> = numbers.into_iter().map(|number| number as u32).collect();
         list[..numbers.len()].copy_from_slice(&numbers);
     }
-    let sizes = [complex.pents.len(), complex.edges.len(), complex.triangles.len(), complex.tets.len()];
-    lent.counts = [complex.n_vertices, sizes[0], sizes[1], sizes[2], sizes[3]];
+    lent.counts = counts(&complex);
     Answer { number: 0, place: 0, lent }
 }

@@ -1,13 +1,20 @@
 //! The Rust's answers and the table's refusals on a small sample, as the input and the output of a replay.
+mod changes;
+
+use calls::checks::{self, Check, OUTPUTS};
 use calls::complexes::KINDS;
-use calls::expected::{self, Lent};
+use calls::expected::{self, Answer, Lent};
 use calls::random::Random;
 use calls::{Call, Complex, LISTS, Pent, defects, rooms};
+use changes::Change;
 use std::fmt::Write;
 use std::process::ExitCode;
 
 /// The bound on the numbers of a drawn call's pentachorons.
 const DRAWN: usize = 24;
+
+/// How many bytes the replay reads at most.
+const READ: usize = 65_536;
 
 const FIRST: Pent = [0, 1, 2, 3, 4];
 const NEXT: Pent = [1, 2, 3, 4, 5];
@@ -118,7 +125,7 @@ fn drawn() -> Vec<Call> {
     calls
 }
 
-/// All calls that are frozen; those chosen also with rooms one longer.
+/// All calls of the builder that are frozen for themselves; those chosen also with rooms one longer.
 fn sample() -> Vec<Call> {
     let mut calls: Vec<Call> = chosen().into_iter().map(exact).collect();
     calls.extend(chosen().into_iter().map(|complex| Call::new(complex, || 1)));
@@ -126,26 +133,75 @@ fn sample() -> Vec<Call> {
     calls
 }
 
-/// A call's line: how many numbers the pentachorons have, the vertex count, the lists' lengths, those numbers.
-fn line(call: &Call) -> String {
-    let head = [call.pents.len(), call.n_vertices].into_iter().chain(call.lengths);
+/// Calls with changes to what they built: every kind of damage to one of these complexes, done and undone.
+fn damaged() -> Vec<(Call, Vec<Change>)> {
+    let complexes = [(6, vec![FIRST, NEXT]), (5, vec![FIRST; 2]), (9, vec![FIRST, NEXT, [0, 2, 4, 6, 8]])];
+    let mut lines: Vec<(Call, Vec<Change>)> = complexes.map(|complex| (exact(complex), vec![])).into();
+    changes::damage(&mut lines, |call| check(call, &builder_answer(call)).unwrap());
+    lines
+}
+
+/// A line: how many numbers the pentachorons have, the vertex count, the lists' lengths, how many changes there are, those numbers, the changes.
+fn line((call, changes): &(Call, Vec<Change>)) -> String {
+    let head = [call.pents.len(), call.n_vertices].into_iter().chain(call.lengths).chain([changes.len()]);
     let numbers = head.chain(call.pents.iter().map(|&vertex| vertex as usize));
-    let words: Vec<String> = numbers.map(|number| format!("{number:016x}")).collect();
+    let words: Vec<String> =
+        numbers.chain(changes.iter().map(Change::packed)).map(|number| format!("{number:016x}")).collect();
     words.join(" ") + "\n"
 }
 
-/// The lines of a call's answer; place i of a list holds 50000 + i before it.
-fn answer(call: &Call) -> String {
-    let lists = call.lengths.map(|length| (0..length as u32).map(|place| 50_000 + place).collect());
-    let answer = expected::answer(call, Lent { lists, counts: [0; 5] });
+/// What a list of so many places holds before a call.
+fn before(length: usize) -> Vec<u32> {
+    (0..length as u32).map(|place| 50_000 + place).collect()
+}
+
+/// A list's line.
+fn list_line(name: &str, content: &[u32]) -> String {
+    let numbers: String = content.iter().map(|number| format!(" {number}")).collect();
+    format!("{name}{numbers}\n")
+}
+
+/// The builder's answer to a call.
+fn builder_answer(call: &Call) -> Answer {
+    expected::answer(call, Lent { lists: call.lengths.map(before), counts: [0; 5] })
+}
+
+/// The check of what a call built, if it did.
+fn check(call: &Call, answer: &Answer) -> Option<Check> {
+    let Lent { lists, counts } = answer.lent.clone();
+    (answer.number == 0).then_some(Check { counts, lists, lengths: call.lengths, outputs: [2 * call.pents.len(); 2] })
+}
+
+/// The lines of the builder's answer.
+fn answer_lines(answer: &Answer) -> String {
     let [vertices, pents, edges, triangles, tets] = answer.lent.counts;
     let mut lines = match answer.number {
         0 => format!("vertices {vertices} pentachorons {pents} edges {edges} triangles {triangles} tets {tets}\n"),
         number => format!("refused {number} {}\n", answer.place),
     };
-    for (list, content) in LISTS.iter().zip(&answer.lent.lists) {
-        let numbers: String = content.iter().map(|number| format!(" {number}")).collect();
-        writeln!(lines, "{}{numbers}", list.name).unwrap();
+    lines.extend(LISTS.iter().zip(&answer.lent.lists).map(|(list, content)| list_line(list.name, content)));
+    lines
+}
+
+/// The lines of a check.
+fn check_lines(check: &Check) -> String {
+    let checked = checks::answer(check, check.outputs.map(before));
+    let mut lines = String::new();
+    writeln!(lines, "checked {}", checked.number).unwrap();
+    lines.extend(OUTPUTS.iter().zip(&checked.outputs).map(|(name, output)| list_line(name, output)));
+    lines
+}
+
+/// All lines that answer a line.
+fn answer((call, changes): &(Call, Vec<Change>)) -> String {
+    let answer = builder_answer(call);
+    let mut lines = answer_lines(&answer);
+    if let Some(mut check) = check(call, &answer) {
+        lines += &check_lines(&check);
+        for change in changes {
+            change.make(&mut check);
+            lines += &check_lines(&check);
+        }
     }
     lines
 }
@@ -157,10 +213,12 @@ fn main() -> ExitCode {
         eprintln!("usage: freeze STDIN STDOUT");
         return ExitCode::from(2);
     };
-    let calls = sample();
+    let calls: Vec<_> = sample().into_iter().map(|call| (call, vec![])).chain(damaged()).collect();
     let inputs: String = calls.iter().map(line).collect();
     let answers: String = calls.iter().map(answer).collect();
-    println!("{} calls frozen, {} and {} bytes", calls.len(), inputs.len(), answers.len());
+    let checks = answers.lines().filter(|line| line.starts_with("checked")).count();
+    println!("{} calls and {checks} checks frozen, {} and {} bytes", calls.len(), inputs.len(), answers.len());
+    assert!(inputs.len() < READ, "the replay reads no more");
     for (path, text) in [(inputs_path, inputs), (answers_path, answers)] {
         if let Err(error) = std::fs::write(path, text) {
             eprintln!("{path}: {error}");

@@ -1,5 +1,6 @@
-//! Our library's call on lists that lie between guards.
+//! Our library's calls on lists that lie between guards.
 use crate::ours;
+use calls::checks::{Check, Checked, OUTPUTS};
 use calls::expected::{Answer, Lent};
 use calls::{Call, LISTS};
 
@@ -41,6 +42,12 @@ impl<T: Copy + PartialEq + TryFrom<u32>> Guarded<T> {
         let broken = before.iter().chain(after).any(|&word| word != Self::guard());
         broken.then(|| format!("{name}: written next to its {} places", self.content().len()))
     }
+
+    /// What is to be said of the list of this name, which was lent to be read.
+    fn complaints(&self, name: &str, given: &[T]) -> impl Iterator<Item = String> {
+        let changed = (self.content() != given).then(|| format!("{name}: changed"));
+        self.complaint(name).into_iter().chain(changed)
+    }
 }
 
 /// Makes the call on lists of this content; its answer, and what it did to memory that it wasn't lent to write to.
@@ -53,11 +60,25 @@ pub fn answer(call: &Call, before: &Lent) -> (Answer, Vec<String>) {
     let lent = lists.each_mut().map(Guarded::lent);
     let number =
         unsafe { ours::from_pentachorons(call.n_vertices, (start, length), lent, counts.lent().0, place.lent().0) };
-    let changed = (pents.content() != call.pents).then(|| "given pents: changed".to_string());
-    let others = [pents.complaint("given pents"), changed, counts.complaint("counts"), place.complaint("place")];
-    let complaints = LISTS.iter().zip(&lists).map(|(list, guarded)| guarded.complaint(list.name));
-    let stray = complaints.chain(others).flatten().collect();
+    let others = [counts.complaint("counts"), place.complaint("place")].into_iter().flatten();
+    let complaints = LISTS.iter().zip(&lists).filter_map(|(list, guarded)| guarded.complaint(list.name));
+    let stray = complaints.chain(pents.complaints("given pents", &call.pents)).chain(others).collect();
     let lists = lists.map(|list| list.content().to_vec());
     let lent = Lent { lists, counts: counts.content().try_into().unwrap() };
     (Answer { number, place: place.content()[0], lent }, stray)
+}
+
+/// Checks with outputs of this content; the answer, and what the call did to memory that it wasn't lent to write to. A list's whole content lies between its guards, so that what isn't lent of it stands past what is.
+pub fn checked(check: &Check, before: &[Vec<u32>; 2]) -> (Checked, Vec<String>) {
+    let mut counts = Guarded::new(&check.counts);
+    let mut lists = check.lists.each_ref().map(|list| Guarded::new(list));
+    let mut outputs = before.each_ref().map(|output| Guarded::new(output));
+    let starts = lists.each_mut().map(|list| list.lent().0.cast_const());
+    let lent = std::array::from_fn(|list| (starts[list], check.lengths[list]));
+    let number = unsafe { ours::check_built(counts.lent().0, lent, outputs.each_mut().map(Guarded::lent)) };
+    let given = LISTS.iter().zip(&lists).zip(&check.lists);
+    let complaints = given.flat_map(|((list, guarded), given)| guarded.complaints(list.name, given));
+    let others = OUTPUTS.iter().zip(&outputs).filter_map(|(name, output)| output.complaint(name));
+    let stray = complaints.chain(counts.complaints("counts", &check.counts)).chain(others).collect();
+    (Checked { number, outputs: outputs.map(|output| output.content().to_vec()) }, stray)
 }

@@ -14,8 +14,8 @@ abbrev μ-loop : tie.MeasureT-loop
 loop-holds : tie.Need-loop-holds Inv-loop μ-loop
 loop-holds c = search needs
 
-print-line-requires : tie.Need-print-line-requires Inv-loop μ-loop
-print-line-requires c κs = search needs
+print-line-at-requires : tie.Need-print-line-at-requires Inv-loop μ-loop
+print-line-at-requires c κs = search needs
 
 loop-less : tie.Need-loop-less Inv-loop μ-loop
 loop-less c = search needs
@@ -29,4 +29,4 @@ returns c = search needs
 pub print-lines-spec : {M : Type 1} → statement M
 print-lines-spec =
     tie.close
-    (tie.spec Inv-loop μ-loop loop-holds print-line-requires loop-less loop-again returns)
+    (tie.spec Inv-loop μ-loop loop-holds print-line-at-requires loop-less loop-again returns)

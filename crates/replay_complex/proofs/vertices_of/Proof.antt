@@ -1,23 +1,23 @@
--- `replay_complex::vertices_at` meets its contract: i counts up to `count`, and a write keeps the length. Assumes nothing.
+-- `replay_complex::vertices_of` meets its contract: i counts up to `count`, and a write keeps the length. Assumes nothing.
 use Prim.Native.Nat.{_≤_, _-_}
 use mathlib.Core.Path.{_≡_}
 use lib.ListN.{length}
 use borrow.Author.Needs.{needs}
 use Rattle.io.proofs.Counting.{counts}
-use Rattle.replay_complex.proofs.vertices_at.Statement.{statement}
-use Rattle.replay_complex.proofs.vertices_at.Tie as tie
+use Rattle.replay_complex.proofs.vertices_of.Statement.{statement}
+use Rattle.replay_complex.proofs.vertices_of.Tie as tie
 
 abbrev Inv-loop : tie.InvT-loop
-Inv-loop text at count vertices₀ i₀ vertices i = (i ≤ count) × (100 ≡ length vertices)
+Inv-loop line count vertices₀ i₀ vertices i = (i ≤ count) × (100 ≡ length vertices)
 
 abbrev μ-loop : tie.MeasureT-loop
-μ-loop text at count vertices₀ i₀ vertices i = count - i
+μ-loop line count vertices₀ i₀ vertices i = count - i
 
 loop-holds : tie.Need-loop-holds Inv-loop μ-loop
 loop-holds c = search needs
 
-vertex-at-requires : tie.Need-vertex-at-requires Inv-loop μ-loop
-vertex-at-requires c κs = search needs
+vertex-of-requires : tie.Need-vertex-of-requires Inv-loop μ-loop
+vertex-of-requires c κs = search needs
 
 mul-vertices : tie.Need-mul-vertices Inv-loop μ-loop
 mul-vertices c = search needs
@@ -37,14 +37,14 @@ loop-again c = search needs
 returns : tie.Need-returns Inv-loop μ-loop
 returns c = counts _ _ (search needs)
 
-pub vertices-at-spec : {M : Type 1} → statement M
-vertices-at-spec =
+pub vertices-of-spec : {M : Type 1} → statement M
+vertices-of-spec =
     tie.close
     (tie.spec
     Inv-loop
     μ-loop
     loop-holds
-    vertex-at-requires
+    vertex-of-requires
     mul-vertices
     array-write-vertices
     add-i
