@@ -1,8 +1,8 @@
 -- A built complex: what the definition says of each list, and that a complex of which all this holds is built. Assumes nothing.
 use Prim.Native.Nat.{ℕ, _+_, _*_, _/_, _%_, _≤_, _<_}
 use mathlib.Core.Path.{_≡_, refl, sym, ap, _∙_, subst}
-use mathlib.Core.Bool.{Bool, true, false, _&&_, _||_}
-use mathlib.Core.List.{List, [], _++_, map, append-nil, List·Memᴰ}
+use mathlib.Core.Bool.{true, false}
+use mathlib.Core.List.{List, [], _++_, map, append-nil}
 use native.Mathlib.Omega.{arith}
 use lib.Dec.{eqb, ltb, leb}
 use lib.ListN.{length, take}
@@ -10,22 +10,22 @@ use lib.Seq.{length-take-le}
 use borrow.Author.Tests.{leb-true, le-leb, eqb-true, eqb-false, eq-eqb, ne-eqb, ltb-false, le-ltb}
 use Rattle.refusals.specs.declared.Outcome.{Outcome}
 use Rattle.refusals.specs.declared.Outcome.the-variants as Outcome
-use Rattle.lists.specs.Rows.{flat, rows, starts, Wide, begins}
+use Rattle.lists.specs.Rows.{flat, rows, Wide, begins}
 use Rattle.lists.specs.Sorting.{sort}
 use Rattle.lists.proofs.Tests.{Says, says-by, said, passes, and-true}
-use Rattle.lists.proofs.Rows.{length-rows, rows-take, rows-wide, flat-rows, length-flat, rows-flat, begins-says}
+use Rattle.lists.proofs.Rows.{length-rows, rows-take, rows-wide, rows-front, length-flat, rows-flat, begins-says}
 use Rattle.lists.proofs.Sorting.{sort-rising, sort-mem, rising-ascending, rising-once}
 use Rattle.complex.specs.declared.Counts.{Counts}
-use Rattle.complex.specs.declared.numbering.Face.{Face}
+use Rattle.complex.specs.declared.checks.Rooms.{Rooms}
 use Rattle.complex.specs.declared.numbering.Face.the-variants.{Edge, Triangle, Tet}
 use Rattle.complex.specs.Incidence.{Tens, Simplices, Lie}
 use Rattle.complex.specs.Complex.{numbersOf, edges, triangles, triToPents, edgeToTris, edgeToPents}
 use Rattle.complex.specs.Builder.{pentachorons, sortedPents, offence, isShort, checkOf, builtOf, countsOf, Lists, written}
-use Rattle.complex.specs.Check.{pentsIn, edgesIn, trianglesIn, givenOf, roomFor, answerFor, sameCounts, answers, beginAll, isBuilt, hasFaces, holds}
+use Rattle.complex.specs.Check.{pentsIn, edgesIn, trianglesIn, givenOf, roomFor, answerFor, sameCounts, answers, beginAll, isBuilt, holds}
 use Rattle.complex.proofs.Sorted.{sorted-wide-all, length-sorted-all, sorted-is, sorted-of}
 use Rattle.complex.proofs.Offences.{or-false, offence-done, once-of, check-done, done-check, length-passed}
 use Rattle.complex.proofs.Laws.{all-sorted, not-large, all-below, no-repeat, no-offence}
-use Rattle.complex.proofs.FaceLists.{HasFaces, has-says, has-rows}
+use Rattle.complex.proofs.FaceLists.{HasFaces, has-rows}
 use Rattle.complex.proofs.Lying.{Sorted}
 use Rattle.complex.proofs.Incident.{edge-numbers, triangle-numbers, simplices-of, lie-of}
 use Rattle.complex.proofs.Rises.{RisesBelow, AllRise}
@@ -43,6 +43,16 @@ pub record IsBuilt (c : Counts) (l : Lists) : Type 0 where
   pub tri-to-pents : holds (pentsIn c (l .pents)) (triangles (pentsIn c (l .pents))) (l .triToPents) (l .triToPentsStarts) ≡ true
   pub edge-to-tris : holds (triangles (pentsIn c (l .pents))) (edges (pentsIn c (l .pents))) (l .edgeToTris) (l .edgeToTrisStarts) ≡ true
   pub edge-to-pents : holds (pentsIn c (l .pents)) (edges (pentsIn c (l .pents))) (l .edgeToPents) (l .edgeToPentsStarts) ≡ true
+
+pub positive : {n : ℕ} → (n ≡ 0 → ⊥) → 0 < n
+positive f = omega arith
+
+-- the pentachorons of a list that the builder takes rise when they are sorted
+pub taken-rises : (n : ℕ) (given : List ℕ) → offence n 0 (pentachorons given) ≡ Outcome.Done → AllRise n (sortedPents given)
+taken-rises n given d p m =
+    let w = sorted-of given p m in
+    let ok = offence-done n 0 (pentachorons given) d (w .0) (w .1) in
+    subst (RisesBelow n) (w .2) (sort-rising (w .0) (once-of (w .0) (ok .1)), λ v k. not-large n (w .0) (ok .0) (sort-mem (w .0) k))
 
 -- ---- counts
 
@@ -95,25 +105,25 @@ module _ (c : Counts) (l : Lists) (long : 5 * c .pentachorons ≤ length (l .pen
       ∙ rows-take 5 (c .pentachorons) (5 * c .pentachorons) (l .pents) (omega arith) long
 
   -- rows that rise are sorted
-  rise-sorted : AllRise (c .vertices) (pentsIn c (l .pents)) → sortedPents (givenOf c l) ≡ pentsIn c (l .pents)
+  pub rise-sorted : AllRise (c .vertices) (pentsIn c (l .pents)) → sortedPents (givenOf c l) ≡ pentsIn c (l .pents)
   rise-sorted up = sorted-is (givenOf c l) ∙ ap (map sort) given-rows ∙ all-sorted (pentsIn c (l .pents)) (λ p m. rising-ascending p (up p m .0))
 
 -- ---- the lists
 
 -- each list begins with what is written
-record BeginAll (new l : Lists) : Type 0 where
-  pents : begins (new .pents) (l .pents) ≡ true
-  edges : begins (new .edges) (l .edges) ≡ true
-  triangles : begins (new .triangles) (l .triangles) ≡ true
-  tets : begins (new .tets) (l .tets) ≡ true
-  triToPents : begins (new .triToPents) (l .triToPents) ≡ true
-  triToPentsStarts : begins (new .triToPentsStarts) (l .triToPentsStarts) ≡ true
-  edgeToTris : begins (new .edgeToTris) (l .edgeToTris) ≡ true
-  edgeToTrisStarts : begins (new .edgeToTrisStarts) (l .edgeToTrisStarts) ≡ true
-  edgeToPents : begins (new .edgeToPents) (l .edgeToPents) ≡ true
-  edgeToPentsStarts : begins (new .edgeToPentsStarts) (l .edgeToPentsStarts) ≡ true
+pub record BeginAll (new l : Lists) : Type 0 where
+  pub pents : begins (new .pents) (l .pents) ≡ true
+  pub edges : begins (new .edges) (l .edges) ≡ true
+  pub triangles : begins (new .triangles) (l .triangles) ≡ true
+  pub tets : begins (new .tets) (l .tets) ≡ true
+  pub triToPents : begins (new .triToPents) (l .triToPents) ≡ true
+  pub triToPentsStarts : begins (new .triToPentsStarts) (l .triToPentsStarts) ≡ true
+  pub edgeToTris : begins (new .edgeToTris) (l .edgeToTris) ≡ true
+  pub edgeToTrisStarts : begins (new .edgeToTrisStarts) (l .edgeToTrisStarts) ≡ true
+  pub edgeToPents : begins (new .edgeToPents) (l .edgeToPents) ≡ true
+  pub edgeToPentsStarts : begins (new .edgeToPentsStarts) (l .edgeToPentsStarts) ≡ true
 
-begin-all : (new l : Lists) → beginAll new l ≡ true → BeginAll new l
+pub begin-all : (new l : Lists) → beginAll new l ≡ true → BeginAll new l
 unfolding beginAll
 begin-all new l h =
     let j = and-true _ (begins (new .edgeToPentsStarts) (l .edgeToPentsStarts)) h in
@@ -165,7 +175,7 @@ module _ (c : Counts) (l : Lists) where
         few-vertices = ltb-false 4096 (c .vertices) (v .1);
         few = omega (arith, given-long c l long, length-passed (length given) (d .1) .1);
         long = long;
-        rise = subst (AllRise (c .vertices)) sorted (up (d .3));
+        rise = subst (AllRise (c .vertices)) sorted (taken-rises (c .vertices) given (d .3));
         has-edges = subst (λ (ps : List (List ℕ)). HasFaces Edge ps (c .edges) (l .edges)) sorted (record { count = same .2; front = said (begins-says _ (l .edges)) (b .edges) });
         has-triangles = subst (λ (ps : List (List ℕ)). HasFaces Triangle ps (c .triangles) (l .triangles)) sorted (record { count = same .3; front = said (begins-says _ (l .triangles)) (b .triangles) });
         has-tets = subst (λ (ps : List (List ℕ)). HasFaces Tet ps (c .tets) (l .tets)) sorted (record { count = same .4; front = said (begins-says _ (l .tets)) (b .tets) });
@@ -173,15 +183,6 @@ module _ (c : Counts) (l : Lists) where
         edge-to-tris = subst (λ (ps : List (List ℕ)). holds (triangles ps) (edges ps) (l .edgeToTris) (l .edgeToTrisStarts) ≡ true) sorted (rw (b .edgeToTris, b .edgeToTrisStarts) refl);
         edge-to-pents = subst (λ (ps : List (List ℕ)). holds ps (edges ps) (l .edgeToPents) (l .edgeToPentsStarts) ≡ true) sorted (rw (b .edgeToPents, b .edgeToPentsStarts) refl);
       }
-    where
-      positive : {n : ℕ} → (n ≡ 0 → ⊥) → 0 < n
-      positive f = omega arith
-
-      up : offence (c .vertices) 0 (pentachorons (givenOf c l)) ≡ Outcome.Done → AllRise (c .vertices) (sortedPents (givenOf c l))
-      up d p m =
-          let w = sorted-of (givenOf c l) p m in
-          let ok = offence-done (c .vertices) 0 (pentachorons (givenOf c l)) d (w .0) (w .1) in
-          subst (RisesBelow (c .vertices)) (w .2) (sort-rising (w .0) (once-of (w .0) (ok .1)), λ v k. not-large (c .vertices) (w .0) (ok .0) (sort-mem (w .0) k))
 
   module _ (b : IsBuilt c l) where
     counts-same : sameCounts c (countsOf (c .vertices) (pentsIn c (l .pents))) ≡ true
@@ -189,18 +190,16 @@ module _ (c : Counts) (l : Lists) where
     counts-same =
         is-same c (countsOf (c .vertices) (pentsIn c (l .pents))) refl (sym (length-rows 5 (c .pentachorons) (l .pents))) (b .has-edges .count) (b .has-triangles .count) (b .has-tets .count)
 
-    lists-begin : beginAll (written (pentsIn c (l .pents))) l ≡ true
+    pub lists-begin : beginAll (written (pentsIn c (l .pents))) l ≡ true
     unfolding written holds triToPents edgeToTris edgeToPents
     lists-begin =
         let ps = pentsIn c (l .pents) in
-        let m : length (flat ps) ≡ 5 * c .pentachorons = length-flat 5 ps (rows-wide 5 (c .pentachorons) (l .pents) (b .long)) ∙ ap (λ (k : ℕ). 5 * k) (length-rows 5 (c .pentachorons) (l .pents)) in
-        let front : take (length (flat ps)) (l .pents) ≡ flat ps = ap (λ (k : ℕ). take k (l .pents)) m ∙ sym (flat-rows 5 (c .pentachorons) (l .pents) (b .long)) in
         let t = and-true _ _ (b .tri-to-pents) in
         let e = and-true _ _ (b .edge-to-tris) in
         let p = and-true _ _ (b .edge-to-pents) in
         all-begin (written ps) l
         (record {
-          pents = passes (begins-says (flat ps) (l .pents)) front;
+          pents = passes (begins-says (flat ps) (l .pents)) (rows-front 5 (c .pentachorons) (l .pents) (b .long));
           edges = passes (begins-says _ (l .edges)) (b .has-edges .front);
           triangles = passes (begins-says _ (l .triangles)) (b .has-triangles .front);
           tets = passes (begins-says _ (l .tets)) (b .has-tets .front);
@@ -212,6 +211,19 @@ module _ (c : Counts) (l : Lists) where
           edgeToPentsStarts = p .1;
         })
 
+  -- the builder takes the pentachoron list, given room
+  pub built-taken : IsBuilt c l → (r : Rooms) → isShort (c .pentachorons) r ≡ false → checkOf (c .vertices) (givenOf c l) r ≡ Outcome.Done
+  built-taken b r room =
+      let long = given-long c l (b .long) in
+      let whole : length (givenOf c l) % 5 ≡ 0 = omega (arith, long) in
+      let n : length (givenOf c l) / 5 ≡ c .pentachorons = omega (arith, long) in
+      done-check (c .vertices) (givenOf c l) r
+      (rw (ne-eqb (c .vertices) 0 (λ e. omega (arith, b .some-vertices)), le-ltb 4096 (c .vertices) (b .few-vertices)) refl)
+      (rw (eq-eqb _ _ whole, le-ltb 40960 (length (givenOf c l)) (omega (arith, long, b .few))) refl)
+      (rw n room)
+      (rw (given-rows c l (b .long)) (no-offence (c .vertices) 0 (pentsIn c (l .pents))
+      (λ p m. let r = b .rise p m in (all-below (c .vertices) p (r .1), no-repeat p (rising-once p (r .0))))))
+
   backward : IsBuilt c l → isBuilt c l ≡ true
   unfolding isBuilt
   backward b =
@@ -219,21 +231,7 @@ module _ (c : Counts) (l : Lists) where
       let sorted : sortedPents given ≡ pentsIn c (l .pents) = rise-sorted c l (b .long) (b .rise) in
       let same : sameCounts c (countsOf (c .vertices) (sortedPents given)) ≡ true = rw sorted (counts-same b) in
       let begun : beginAll (written (sortedPents given)) l ≡ true = rw sorted (lists-begin b) in
-      rw (le-leb _ _ (b .long), done-answers (checkOf (c .vertices) given (roomFor (c .pentachorons))) (c .vertices) given c done same, begun) refl
-    where
-      long : length (givenOf c l) ≡ 5 * c .pentachorons
-      long = given-long c l (b .long)
-
-      done : checkOf (c .vertices) (givenOf c l) (roomFor (c .pentachorons)) ≡ Outcome.Done
-      done =
-          let whole : length (givenOf c l) % 5 ≡ 0 = omega (arith, long) in
-          let n : length (givenOf c l) / 5 ≡ c .pentachorons = omega (arith, long) in
-          done-check (c .vertices) (givenOf c l) (roomFor (c .pentachorons))
-          (rw (ne-eqb (c .vertices) 0 (λ e. omega (arith, b .some-vertices)), le-ltb 4096 (c .vertices) (b .few-vertices)) refl)
-          (rw (eq-eqb _ _ whole, le-ltb 40960 (length (givenOf c l)) (omega (arith, long, b .few))) refl)
-          (rw n (room-enough (c .pentachorons)))
-          (rw (given-rows c l (b .long)) (no-offence (c .vertices) 0 (pentsIn c (l .pents))
-          (λ p m. let r = b .rise p m in (all-below (c .vertices) p (r .1), no-repeat p (rising-once p (r .0))))))
+      rw (le-leb _ _ (b .long), done-answers (checkOf (c .vertices) given (roomFor (c .pentachorons))) (c .vertices) given c (built-taken b (roomFor (c .pentachorons)) (room-enough (c .pentachorons))) same, begun) refl
 
 -- a complex is built where all this holds
 pub built-says : (c : Counts) (l : Lists) → Says (IsBuilt c l) (isBuilt c l)

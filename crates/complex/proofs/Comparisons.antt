@@ -1,5 +1,5 @@
 -- The parts of the check behind refusal 7, joined: what they ask, and that together they say that a complex is built. Assumes nothing.
-use Prim.Native.Nat.{ℕ, _+_, _*_, _≤_, _<_}
+use Prim.Native.Nat.{ℕ, _+_, _*_, _≤_}
 use mathlib.Core.Path.{_≡_, refl, sym, ap, _∙_}
 use mathlib.Core.Bool.{Bool, true, not, _&&_}
 use mathlib.Core.List.{List, _++_}
@@ -8,7 +8,7 @@ use lib.Dec.{eqb, leb}
 use lib.ListN.{length, take, drop}
 use borrow.Author.Tests.{leb-true, le-leb, eqb-false, ne-eqb, not-true}
 use Rattle.lists.specs.Rows.{Wide, over, begins}
-use Rattle.lists.proofs.Tests.{Says, says-by, says-same, said, passes, and-true}
+use Rattle.lists.proofs.Tests.{says-by, says-same, said, passes, and-true}
 use Rattle.lists.proofs.Rows.{length-rows, rows-wide, begins-says, begins-long}
 use Rattle.complex.specs.declared.Counts.{Counts}
 use Rattle.complex.specs.declared.numbering.Face.{Face}
@@ -22,7 +22,7 @@ use Rattle.complex.proofs.FaceNumbers.{length-numbers}
 use Rattle.complex.proofs.FaceLists.{has-says, has-rows, has-room}
 use Rattle.complex.proofs.Rises.{all-rise-says}
 use Rattle.complex.proofs.Holdings.{tri-to-pents-total, edge-to-tris-total, edge-to-pents-total}
-use Rattle.complex.proofs.BuiltComplex.{IsBuilt, built-says, built-sorted, built-wide}
+use Rattle.complex.proofs.BuiltComplex.{IsBuilt, positive, built-says, built-sorted, built-wide}
 
 -- ---- adjacency
 
@@ -132,9 +132,6 @@ module _ (c : Counts) (l : Lists) where
         edge-to-tris = d .1;
         edge-to-pents = a .1;
       }
-    where
-      positive : {n : ℕ} → (n ≡ 0 → ⊥) → 0 < n
-      positive f = omega arith
 
   backward : IsBuilt c l → parts ≡ true
   unfolding parts hasPents hasAllFaces hasAdjacency

@@ -1,7 +1,7 @@
 -- When a list has the faces of pentachorons, as the comparison of rows tells. Assumes nothing.
-use Prim.Native.Nat.{ℕ, suc, _+_, _*_, _-_, _≤_, _<_}
+use Prim.Native.Nat.{ℕ, _+_, _*_, _-_, _≤_, _<_}
 use mathlib.Core.Path.{_≡_, refl, sym, ap, _∙_, subst}
-use mathlib.Core.Bool.{true, false}
+use mathlib.Core.Bool.{false}
 use mathlib.Core.List.{List, [], _++_, foldl, foldl-append}
 use native.Mathlib.Nat.{mul-le-mul-left}
 use native.Mathlib.Omega.{arith}
@@ -9,9 +9,9 @@ use lib.Dec.{eqb}
 use lib.ListN.{length, take, drop, replicate}
 use Rattle.lists.specs.Lists.{gather}
 use Rattle.lists.specs.Keys.{meet, firsts}
-use Rattle.lists.specs.Rows.{flat, rows, Wide, over, begins}
+use Rattle.lists.specs.Rows.{flat, rows, Wide, over}
 use Rattle.lists.specs.Chains.{Met, Comparable, Stand}
-use Rattle.lists.proofs.Tests.{Says, eqb-says, and-says, says-same, fails, said}
+use Rattle.lists.proofs.Tests.{Says, eqb-says, and-says, says-same, fails}
 use Rattle.lists.proofs.Elements.{gather-append}
 use Rattle.lists.proofs.Keys.{firsts-room}
 use Rattle.lists.proofs.Choices.{combos-length}

@@ -8,7 +8,7 @@ use native.Mathlib.Omega.{arith}
 use native.Mathlib.Numerals.{add-one}
 use lib.Dec.{leb, ltb}
 use lib.ListN.{length, getD, take, drop, length-map}
-use lib.Seq.{drop-cons, getD-take, take-take}
+use lib.Seq.{drop-cons}
 use borrow.Author.Tests.{le-leb, lt-ltb}
 use Rattle.lists.specs.Lists.{gather, upto, combos, among, within, Within, Rising}
 use Rattle.lists.specs.Keys.{find}
@@ -18,7 +18,7 @@ use Rattle.lists.specs.GroupSteps.{order}
 use Rattle.lists.proofs.Tests.{Says, pass, leb-says, ltb-says, and-says, said, passes}
 use Rattle.lists.proofs.Elements.{getD-mem, mem-gather, length-gather, length-upto, mem-upto, getD-table, map-upto, map-same, within-says, Sub, rising-sub}
 use Rattle.lists.proofs.Keys.{find-mem}
-use Rattle.lists.proofs.Rows.{length-rows, rowPart, row-part, length-starts, starts-first, starts-last, starts-row, starts-fit, begins-says, begins-long, slice-part, part, Splits, flat-parts, length-parts, starts-parts, flat-sub}
+use Rattle.lists.proofs.Rows.{length-rows, rowPart, row-part, length-starts, starts-first, starts-last, begins-says, begins-long, part, Splits, flat-parts, length-parts, starts-parts, flat-sub, begun-start, begun-fits, begun-part}
 use Rattle.lists.proofs.Grouped.{flat-groups, order-full}
 use Rattle.complex.specs.declared.holding.Shape.{Shape}
 use Rattle.complex.specs.Complex.{holding, edges, triangles, rowNumbers}
@@ -142,24 +142,15 @@ module _ (rs : List (List ℕ)) (key : ℕ → List ℕ) (n : ℕ) (items ss : L
   -- ---- the lists of all rows pass
   module _ (b : take (length (flat all)) items ≡ flat all) (d : take (length (starts all)) ss ≡ starts all) where
     start-at : (t : ℕ) → t ≤ n → getD ss t 0 ≡ getD (starts all) t 0
-    start-at t h =
-        sym (getD-take (length (starts all)) ss t 0 (omega (arith, length-starts 0 all, length-all))) ∙ ap (λ (l : List ℕ). getD l t 0) d
+    start-at t h = begun-start all items ss b d t (omega (arith, length-all))
 
     part-is : (j : ℕ) → j < n → PartLies rs (key j) items ss j
     unfolding all
     part-is j h =
         let l : j < length all = omega (arith, length-all) in
-        let f = starts-fit all j l in
-        let x : getD ss j 0 ≡ getD (starts all) j 0 = start-at j (omega arith) in
-        let y : getD ss (j + 1) 0 ≡ getD (starts all) (suc j) 0 = rw (add-one j) (start-at (suc j) h) in
-        let m = begins-long (flat all) items b in
-        let r : getD ss j 0 ≤ getD ss (j + 1) 0 = omega (arith, f .0) in
-        let e : part ss items j ≡ holding rs (key j) =
-        sym (slice-part (getD ss j 0) (getD ss (j + 1) 0) items r (omega (arith, f .0, f .1)))
-        ∙ ap (drop (getD ss j 0)) (sym (take-take (getD ss (j + 1) 0) (length (flat all)) items (omega (arith, f .1))) ∙ ap (take (getD ss (j + 1) 0)) b)
-        ∙ (λ i. drop (x i) (take (y i) (flat all)))
-        ∙ starts-row all j l ∙ getD-table (λ i. holding rs (key i)) n j [] h in
-        record { rise = r; room = omega (arith, f .1); lie = subst (AllLie rs (key j) 0) (sym e) (holding-all rs (key j)) }
+        let f = begun-fits all items ss b d j l in
+        let e : part ss items j ≡ holding rs (key j) = begun-part all items ss b d j l ∙ getD-table (λ i. holding rs (key i)) n j [] h in
+        record { rise = f .1; room = f .2; lie = subst (AllLie rs (key j) 0) (sym e) (holding-all rs (key j)) }
 
     tested : Tested rs key n (length (flat all)) items ss
     tested =

@@ -1,25 +1,22 @@
 -- Faces that lie in each other, by their numbers: parts of the adjacency lists, rows of ten numbers, and the tables of places. Assumes nothing.
-use Prim.Native.Nat.{ℕ, zero, suc, _+_, _*_, _-_, _/_, _%_, _≤_, _<_}
+use Prim.Native.Nat.{ℕ, _+_, _*_, _/_, _%_, _≤_, _<_}
 use mathlib.Core.Path.{_≡_, refl, sym, ap, _∙_, subst}
 use mathlib.Core.Logic.{⊎-elim}
-use mathlib.Core.Bool.{Bool, true, false, _&&_}
-use mathlib.Core.List.{List, [], _∷_, _++_, map, List·Memᴰ, List·Memᴰ·head, Memᴰ·map, Memᴰ·of-map, Memᴰ·cast}
-use native.Mathlib.Nat.{le-of-suc-le-suc, not-suc-le-zero, add-zero}
-use native.Mathlib.Numerals.{add-one}
+use mathlib.Core.Bool.{true}
+use mathlib.Core.List.{List, [], _∷_, map, List·Memᴰ, List·Memᴰ·head, Memᴰ·map, Memᴰ·of-map, Memᴰ·cast}
 use native.Mathlib.Omega.{arith}
-use lib.ListN.{length, getD, take, drop, length-append, length-map, take-append-drop, getD-replicate}
-use lib.Seq.{slice, take-add, take-take, drop-at, getD-take, length-take-le}
+use lib.ListN.{length, getD, take, drop, length-map, getD-replicate}
 use borrow.Author.Tests.{eq-eqb, ne-eqb}
 use Rattle.lists.specs.Lists.{keep, gather, upto, combos, among, Within, Rising}
 use Rattle.lists.specs.Keys.{find}
-use Rattle.lists.specs.Rows.{flat, rows, Wide, startsFrom, starts, over, begins}
+use Rattle.lists.specs.Rows.{flat, rows, Wide, starts, begins}
 use Rattle.lists.proofs.Tests.{said, passes, and-true, lt-or-ge}
 use Rattle.lists.proofs.Elements.{getD-mem, mem-getD, getD-map, length-gather, map-gather, among-says}
 use Rattle.lists.proofs.Keys.{find-get}
 use Rattle.lists.proofs.Choices.{combos-within, combos-rising, combos-has}
-use Rattle.lists.proofs.Rows.{rows-at, row-below, rows-begins, rows-wide, length-rows, length-flat, length-starts, starts-at, starts-row, begins-says, begins-long, over-take, flat-map}
+use Rattle.lists.proofs.Rows.{rows-at, row-below, rows-begins, rows-wide, length-rows, begins-says, begins-long, flat-map, part, begun-fits, begun-part}
 use Rattle.complex.specs.declared.numbering.Face.the-variants.{Edge, Triangle}
-use Rattle.complex.specs.Complex.{edges, triangles, metFaces, facesOf, numbersOf, holding, rowNumbers, triToPents, edgeToTris, edgeToPents}
+use Rattle.complex.specs.Complex.{edges, triangles, metFaces, facesOf, numbersOf, holding, rowNumbers}
 use Rattle.complex.specs.Check.{holds}
 use Rattle.complex.specs.Parts.{edgePlaces, edgeAt}
 use Rattle.complex.specs.Incidence.{Tens, Simplices, Lie, oppositeIndices}
@@ -29,58 +26,6 @@ use Rattle.complex.proofs.Lying.{Sorted, faces-distinct, faces-only, fa
 use Rattle.complex.proofs.FaceNumbers.{three-edges, one-edge}
 
 -- ---- parts of items
-
--- a row ends where the next one starts
-starts-next : (a : ℕ) (xs : List (List ℕ)) (i : ℕ) → i < length xs → getD (startsFrom a xs) (suc i) 0 ≡ getD (startsFrom a xs) i 0 + length (getD xs i [])
-unfolding startsFrom flat
-starts-next a [] i h = absurd (not-suc-le-zero h)
-starts-next a (x ∷ xs) zero h = starts-at (a + length x) 0 xs (omega arith) ∙ add-zero (a + length x)
-starts-next a (x ∷ xs) (suc i) h = starts-next (a + length x) xs i (le-of-suc-le-suc h)
-
--- and before the end of the items
-starts-most : (a : ℕ) (xs : List (List ℕ)) (i : ℕ) → i ≤ length xs → getD (startsFrom a xs) i 0 ≤ a + length (flat xs)
-unfolding startsFrom flat
-starts-most a [] zero h = omega arith
-starts-most a [] (suc i) h = absurd (not-suc-le-zero h)
-starts-most a (x ∷ xs) zero h = omega arith
-starts-most a (x ∷ xs) (suc i) h = omega (arith, starts-most (a + length x) xs i (le-of-suc-le-suc h), length-append x (flat xs))
-
--- the part of a list from a up to b
-part-is : (l : List ℕ) (a b : ℕ) → a ≤ b → b ≤ length l → take (b - a) (drop a l) ≡ slice a b l
-part-is l a b h k =
-    let e : a + (b - a) ≡ b = omega arith in
-    sym (ap (λ (n : ℕ). slice a n l) (sym e) ∙ ap (drop a) (take-add a (b - a) l) ∙ drop-at (take a l) (take (b - a) (drop a l)) a (length-take-le a l (omega arith)))
-
--- items and starts that begin with those of gs
-module _ (gs : List (List ℕ)) (items ss : List ℕ) (ok : (begins (flat gs) items && begins (starts gs) ss) ≡ true) where
-  items-begin : take (length (flat gs)) items ≡ flat gs
-  items-begin = said (begins-says (flat gs) items) (and-true (begins (flat gs) items) (begins (starts gs) ss) ok .0)
-
-  starts-begin : take (length (starts gs)) ss ≡ starts gs
-  starts-begin = said (begins-says (starts gs) ss) (and-true (begins (flat gs) items) (begins (starts gs) ss) ok .1)
-
-  start-at : (i : ℕ) → i ≤ length gs → getD ss i 0 ≡ getD (starts gs) i 0
-  start-at i h =
-      sym (getD-take (length (starts gs)) ss i 0 (omega (arith, length-starts 0 gs))) ∙ ap (λ (l : List ℕ). getD l i 0) starts-begin
-
-  -- row i's items lie within the list
-  pub part-fits : (i : ℕ) → i < length gs → (i + 1 < length ss) × (getD ss i 0 ≤ getD ss (i + 1) 0) × (getD ss (i + 1) 0 ≤ length items)
-  part-fits i h = (
-    omega (arith, length-starts 0 gs, begins-long (starts gs) ss starts-begin),
-    (let e : getD (starts gs) (i + 1) 0 ≡ getD (starts gs) i 0 + length (getD gs i []) = rw (add-one i) (starts-next 0 gs i h) in
-        omega (arith, start-at i (omega arith), start-at (i + 1) (omega arith))),
-    omega (arith, start-at (i + 1) (omega arith), starts-most 0 gs (i + 1) (omega arith), begins-long (flat gs) items items-begin),
-  )
-
-  -- and are row i
-  pub part-row-of : (i : ℕ) → i < length gs → take (getD ss (i + 1) 0 - getD ss i 0) (drop (getD ss i 0) items) ≡ getD gs i []
-  part-row-of i h =
-      let a = getD ss i 0 in
-      let b = getD ss (i + 1) 0 in
-      let f = part-fits i h in
-      let m : b ≤ length (flat gs) = omega (arith, start-at (i + 1) (omega arith), starts-most 0 gs (i + 1) (omega arith)) in
-      let e : take b items ≡ take b (flat gs) = sym (take-take b (length (flat gs)) items m) ∙ ap (take b) items-begin in
-      part-is items a b (f .1) (f .2) ∙ ap (drop a) e ∙ rw (start-at i (omega arith), start-at (i + 1) (omega arith), add-one i) (starts-row gs i h)
 
 -- the lists of the rows in which each of n keys lies
 module _ (rs : List (List ℕ)) (w n : ℕ) (list items ss : List ℕ) (ok : holds rs (rows w n list) items ss ≡ true) (i : ℕ) (h : i < n) where
@@ -94,15 +39,24 @@ module _ (rs : List (List ℕ)) (w n : ℕ) (list items ss : List ℕ) (ok : hol
   unfolding gs
   among-gs = rw (length-map (rows w n list) (holding rs)) among-rows
 
+  both : (begins (flat gs) items ≡ true) × (begins (starts gs) ss ≡ true)
+  unfolding holds gs
+  both = and-true (begins (flat gs) items) (begins (starts gs) ss) ok
+
+  items-begin : take (length (flat gs)) items ≡ flat gs
+  items-begin = said (begins-says (flat gs) items) (both .0)
+
+  starts-begin : take (length (starts gs)) ss ≡ starts gs
+  starts-begin = said (begins-says (starts gs) ss) (both .1)
+
   -- key i's items lie within the list
   pub holders-fit : (i + 1 < length ss) × (getD ss i 0 ≤ getD ss (i + 1) 0) × (getD ss (i + 1) 0 ≤ length items)
-  unfolding holds gs
-  holders-fit = part-fits gs items ss ok i among-gs
+  holders-fit = begun-fits gs items ss items-begin starts-begin i among-gs
 
   -- and are the numbers of the rows in which it lies
-  pub holders-are : take (getD ss (i + 1) 0 - getD ss i 0) (drop (getD ss i 0) items) ≡ holding rs (getD (rows w n list) i [])
-  unfolding holds gs
-  holders-are = part-row-of gs items ss ok i among-gs ∙ getD-map (holding rs) (rows w n list) i [] [] among-rows
+  pub holders-are : part ss items i ≡ holding rs (getD (rows w n list) i [])
+  unfolding gs
+  holders-are = begun-part gs items ss items-begin starts-begin i among-gs ∙ getD-map (holding rs) (rows w n list) i [] [] among-rows
 
 -- ---- rows of ten
 

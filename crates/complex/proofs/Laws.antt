@@ -11,7 +11,7 @@ use lib.ListN.{length, getD}
 use borrow.Author.Tests.{leb-false, lt-leb}
 use Rattle.refusals.specs.declared.Outcome.the-variants.{Done}
 use Rattle.lists.specs.Lists.{upto, within, Rising, Once}
-use Rattle.lists.specs.Rows.{flat, rows}
+use Rattle.lists.specs.Rows.{flat}
 use Rattle.lists.specs.Sorting.{sort, Ascending, times}
 use Rattle.lists.proofs.Tests.{fails}
 use Rattle.lists.proofs.Elements.{getD-map, keep-rising, upto-rising, among-says}

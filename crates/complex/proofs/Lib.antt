@@ -12,5 +12,6 @@ pub mod Laws
 pub mod Rises
 pub mod Holdings
 pub mod BuiltComplex
+pub mod BuiltAgain
 pub mod Comparisons
 pub mod Pushing

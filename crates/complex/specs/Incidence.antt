@@ -7,7 +7,6 @@ use lib.ListN.{length, getD}
 use Rattle.lists.specs.Lists.{keep, gather, upto, among, Within, Rising}
 use Rattle.lists.specs.Keys.{Distinct}
 use Rattle.lists.specs.Rows.{rows, begins}
-use Rattle.complex.specs.declared.Counts.{Counts}
 use Rattle.complex.specs.declared.incidence.TriangleEdges.{TriangleEdges}
 use Rattle.complex.specs.declared.incidence.Opposite.{Opposite}
 use Rattle.complex.specs.Complex.{rowNumbers}

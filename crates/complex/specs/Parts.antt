@@ -5,12 +5,11 @@ use mathlib.Core.Bool.{true}
 use mathlib.Core.List.{List, [], _∷_, map, List·Memᴰ}
 use lib.ListN.{length, getD}
 use Rattle.lists.specs.Lists.{Once, Rising}
-use Rattle.lists.specs.Keys.{find}
 use Rattle.lists.specs.Rows.{flat, rows, over, begins}
 use Rattle.lists.specs.Groups.{Below}
 use Rattle.complex.specs.declared.numbering.Face.{Face}
 use Rattle.complex.specs.declared.numbering.Face.the-variants.{Edge, Triangle}
-use Rattle.complex.specs.Complex.{widthOf, countOf, metFaces, faces, numbersOf, holding}
+use Rattle.complex.specs.Complex.{widthOf, countOf, faces, numbersOf, holding}
 use Rattle.complex.specs.declared.holding.Shape.{Shape}
 use Rattle.complex.specs.declared.Counts.{Counts}
 use Rattle.complex.specs.Builder.{Lists, pentachorons}

@@ -2,15 +2,14 @@
 use Prim.Native.Nat.{ℕ, suc, _+_, _*_, _-_, _≤_, _<_}
 use mathlib.Core.Path.{_≡_, refl, sym, ap, _∙_, subst}
 use mathlib.Core.Bool.{true, false}
-use mathlib.Core.List.{List, [], _∷_, _++_, foldl, foldl-append, append-assoc, append-nil}
-use native.Mathlib.Nat.{mul-le-mul-left, mul-suc}
+use mathlib.Core.List.{List, [], _∷_, _++_, foldl, foldl-append, append-assoc}
 use native.Mathlib.Numerals.{add-one}
 use native.Mathlib.Omega.{arith}
 use lib.ListN.{length, getD, take, drop, set, length-append, take-append-drop}
 use lib.Seq.{drop-drop, getD-at, take-at}
 use Rattle.lists.specs.Keys.{eqs, find, meet}
 use Rattle.lists.specs.Rows.{rows}
-use Rattle.lists.specs.Chains.{hash, Indexed, Met, Comparable, Stand, Compared}
+use Rattle.lists.specs.Chains.{hash, Met, Comparable, Stand, Compared}
 use Rattle.lists.proofs.Tests.{said, denied, not-both}
 use Rattle.lists.proofs.Keys.{eqs-says, meet-new, fold-grows}
 use Rattle.lists.proofs.Rows.{length-rows, rows-snoc, rows-split, take-rows, row-below}

@@ -8,7 +8,7 @@ use native.Mathlib.Nat.{le-of-suc-le-suc, not-suc-le-zero, add-zero, mul-suc, mu
 use native.Mathlib.Omega.{arith}
 use native.Mathlib.Numerals.{add-one}
 use lib.ListN.{length, getD, take, drop, length-append, length-drop, take-append-drop}
-use lib.Seq.{drop-drop, take-suc, take-add, take-at, drop-at, length-take-le, take-all, take-length, slice, take-append-add, take-append-seam, drop-append-seam}
+use lib.Seq.{drop-drop, getD-take, take-take, take-suc, take-add, take-at, drop-at, length-take-le, take-all, take-length, slice, take-append-add, take-append-seam, drop-append-seam}
 use Rattle.lists.specs.Lists.{gather, upto}
 use Rattle.lists.specs.Rows.{flat, rows, Wide, startsFrom, starts, over, begins}
 use Rattle.lists.proofs.Tests.{Says, pass, fail, eqb-says, and-says, passes}
@@ -112,6 +112,12 @@ flat-rows w zero xs h = rw (mul-zero w) refl
 flat-rows w (suc n) xs h =
     ap (λ (r : List ℕ). take w xs ++ r) (flat-rows w n (drop w xs) (omega (arith, mul-suc w n, length-drop w xs)))
     ∙ sym (take-add w (w * n) xs) ∙ ap (λ (i : ℕ). take i xs) (next-row w n)
+
+-- a list begins with its rows, flat
+pub rows-front : (w n : ℕ) (xs : List ℕ) → w * n ≤ length xs → take (length (flat (rows w n xs))) xs ≡ flat (rows w n xs)
+rows-front w n xs h =
+    let m : length (flat (rows w n xs)) ≡ w * n = length-flat w (rows w n xs) (rows-wide w n xs h) ∙ ap (λ (k : ℕ). w * k) (length-rows w n xs) in
+    ap (λ (k : ℕ). take k xs) m ∙ sym (flat-rows w n xs h)
 
 -- rows that were written flat are read back
 pub rows-flat : (w : ℕ) (xs : List (List ℕ)) (rest : List ℕ) → Wide w xs → rows w (length xs) (flat xs ++ rest) ≡ xs
@@ -296,6 +302,34 @@ module _ (ss xs : List ℕ) where
     where
       end : 0 + length (flat (parts n ++ part ss xs n ∷ [])) ≡ getD ss (suc n) 0
       end = omega (arith, ap (λ (r : List (List ℕ)). length (flat r)) (parts-next n), length-parts (suc n) s)
+
+-- items and starts of gs at the beginning of two lists
+module _ (gs : List (List ℕ)) (items ss : List ℕ) (b : take (length (flat gs)) items ≡ flat gs) (d : take (length (starts gs)) ss ≡ starts gs) where
+  pub begun-start : (i : ℕ) → i ≤ length gs → getD ss i 0 ≡ getD (starts gs) i 0
+  begun-start i h = sym (getD-take (length (starts gs)) ss i 0 (omega (arith, length-starts 0 gs))) ∙ ap (λ (l : List ℕ). getD l i 0) d
+
+  begun-next : (i : ℕ) → i < length gs → getD ss (i + 1) 0 ≡ getD (starts gs) (suc i) 0
+  begun-next i h = rw (add-one i) (begun-start (suc i) h)
+
+  -- part i lies within the items
+  pub begun-fits : (i : ℕ) → i < length gs → (i + 1 < length ss) × (getD ss i 0 ≤ getD ss (i + 1) 0) × (getD ss (i + 1) 0 ≤ length items)
+  begun-fits i h =
+      let f = starts-fit gs i h in
+      let x = begun-start i (omega arith) in
+      let y = begun-next i h in
+      (omega (arith, length-starts 0 gs, begins-long (starts gs) ss d), omega (arith, f .0), omega (arith, f .1, begins-long (flat gs) items b))
+
+  -- and is row i
+  pub begun-part : (i : ℕ) → i < length gs → part ss items i ≡ getD gs i []
+  begun-part i h =
+      let f = starts-fit gs i h in
+      let g = begun-fits i h in
+      let x = begun-start i (omega arith) in
+      let y = begun-next i h in
+      sym (slice-part (getD ss i 0) (getD ss (i + 1) 0) items (g .1) (omega (arith, g .1, g .2)))
+      ∙ ap (drop (getD ss i 0)) (sym (take-take (getD ss (i + 1) 0) (length (flat gs)) items (omega (arith, f .1))) ∙ ap (take (getD ss (i + 1) 0)) b)
+      ∙ (λ j. drop (x j) (take (y j) (flat gs)))
+      ∙ starts-row gs i h
 
 -- ---- gathered rows
 

@@ -1,6 +1,6 @@
 -- `complex::comparison::has_pents` meets its contract. Assumes nothing.
 use Prim.Native.Nat.{_*_, _/_}
-use mathlib.Core.Path.{_≡_, refl, sym, _∙_}
+use mathlib.Core.Path.{_≡_, refl, sym}
 use native.Mathlib.Omega.{arith}
 use lib.ListN.{length, take}
 use lib.Seq.{length-take-le}

@@ -1,9 +1,7 @@
 -- `complex::comparison::is_built` meets its contract. Assumes nothing.
-use Prim.Native.Nat.{_*_}
 use mathlib.Core.Bool.{true, false}
 use mathlib.Core.Path.{_≡_, refl, sym, _∙_}
 use native.Mathlib.Omega.{arith}
-use lib.Seq.{length-take-le}
 use borrow.Author.Needs.{needs}
 use borrow.Author.Tests.{not-true, not-false}
 use Rattle.complex.specs.Builder.{lists}

@@ -1,16 +1,13 @@
 -- `complex::numbering::has_faces` meets its contract. Assumes nothing.
 use Prim.Native.Nat.{_*_, _-_, _/_, _≤_}
-use mathlib.Core.Bool.{true}
-use mathlib.Core.List.{[], foldl}
-use mathlib.Core.Path.{_≡_, refl, sym, ap, _∙_}
+use mathlib.Core.Path.{_≡_, refl, sym, _∙_}
 use native.Mathlib.Nat.{mul-le-mul-left, mul-le-mul-right}
 use native.Mathlib.Omega.{arith}
 use lib.ListN.{length, take, drop}
 use borrow.Author.Needs.{needs}
-use borrow.Author.Tests.{not-true, not-false, eq-eqb, ne-eqb}
+use borrow.Author.Tests.{not-true, not-false}
 use Rattle.complex.specs.Complex.{widthOf, countOf, facesOf, metFaces}
 use Rattle.lists.specs.Chains.{Met, Comparable}
-use Rattle.lists.specs.Keys.{meet}
 use Rattle.lists.specs.Lists.{gather}
 use Rattle.lists.specs.Rows.{rows}
 use Rattle.complex.proofs.FaceLists.{too-many, too-short, has-all, has-noted, has-others, comparable-none}

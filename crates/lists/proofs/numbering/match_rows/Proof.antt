@@ -1,15 +1,13 @@
 -- `lists::numbering::match_rows` meets its contract. Assumes nothing.
 use Prim.Native.Nat.{_+_, _*_, _-_, _≤_}
-use mathlib.Core.Bool.{true}
-use mathlib.Core.List.{[], _∷_, foldl}
-use mathlib.Core.Path.{_≡_, refl, sym, ap, _∙_}
+use mathlib.Core.List.{[], _∷_}
+use mathlib.Core.Path.{_≡_, refl, _∙_}
 use native.Mathlib.Numerals.{add-one}
 use native.Mathlib.Omega.{arith}
 use lib.ListN.{length, take, drop}
 use borrow.Author.Needs.{needs}
 use borrow.Author.Tests.{not-true, not-false}
 use Rattle.lists.specs.Chains.{Met}
-use Rattle.lists.specs.Keys.{meet}
 use Rattle.lists.specs.Rows.{rows}
 use Rattle.lists.proofs.Chains.{met-none, met-trans}
 use Rattle.lists.proofs.Matches.{comparable-next, others-all}
