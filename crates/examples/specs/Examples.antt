@@ -11,8 +11,8 @@ use Rattle.floats.specs.Algebra.{doubles}
 use Rattle.root.specs.Root.{rootOf}
 use Rattle.complex.specs.declared.Built.{Built}
 use Rattle.complex.specs.declared.Built.the-variants.{Done}
-use Rattle.complex.specs.declared.checks.Rooms.{Rooms}
 use Rattle.complex.specs.Complex.{triToPents}
+use Rattle.complex.specs.Check.{roomFor}
 use Rattle.complex.specs.Builder.{sortedPents, checkOf, builtOf, builtNumber, builtPlace}
 use Rattle.geometry.specs.Determinant.{table, cofactor}
 use Rattle.geometry.specs.CayleyMenger.{cm}
@@ -137,25 +137,9 @@ p4 =
 
 -- ---- P5 and P6
 
--- lists with just the room for P pentachorons
-abbrev pub roomsFor : ℕ → Rooms
-roomsFor P =
-    record {
-      pents = 5 * P;
-      edges = 20 * P;
-      triangles = 30 * P;
-      tets = 20 * P;
-      «tri_to_pents_items» = 10 * P;
-      «tri_to_pents_starts» = 10 * P + 1;
-      «edge_to_tris_items» = 30 * P;
-      «edge_to_tris_starts» = 10 * P + 1;
-      «edge_to_pents_items» = 10 * P;
-      «edge_to_pents_starts» = 10 * P + 1;
-    }
-
 -- the builder's answer at vertex count n for a list of P pentachorons
 abbrev pub build : ℕ → ℕ → List ℕ → Built
-build n P given = builtOf (checkOf n given (roomsFor P)) n given
+build n P given = builtOf (checkOf n given (roomFor P)) n given
 
 -- pentachorons 01234 and 12345
 abbrev pub neighbours : List ℕ

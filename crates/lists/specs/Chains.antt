@@ -4,7 +4,7 @@ use mathlib.Core.Path.{_≡_}
 use mathlib.Core.Bool.{true, false}
 use mathlib.Core.List.{List, [], _++_, map, foldl}
 use lib.ListN.{length, getD, take, drop}
-use Rattle.lists.specs.declared.numbering.Match.{Match}
+use Rattle.lists.specs.declared.matching.Match.{Match}
 use Rattle.lists.specs.Keys.{find, meet, Distinct}
 use Rattle.lists.specs.Rows.{rows}
 

@@ -1,4 +1,4 @@
--- `lists::numbering::match_row` meets its contract. Assumes nothing.
+-- `lists::matching::match_row` meets its contract. Assumes nothing.
 use Prim.Native.Nat.{_*_, _≤_}
 use mathlib.Core.Path.{_≡_, refl, sym, _∙_}
 use native.Mathlib.Nat.{mul-le-mul-left}
@@ -12,8 +12,8 @@ use Rattle.lists.proofs.Chains.{hash-below}
 use Rattle.lists.proofs.Keys.{find-le}
 use Rattle.lists.proofs.Matches.{next-room, compared-old, compared-full, compared-other, compared-new}
 use Rattle.lists.proofs.Rows.{length-rows}
-use Rattle.lists.proofs.numbering.match_row.Statement.{statement}
-use Rattle.lists.proofs.numbering.match_row.Tie as tie
+use Rattle.lists.proofs.matching.match_row.Statement.{statement}
+use Rattle.lists.proofs.matching.match_row.Tie as tie
 
 chain-of-requires : tie.Need-chain-of-requires
 chain-of-requires c κs = search needs

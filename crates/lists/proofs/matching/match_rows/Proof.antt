@@ -1,4 +1,4 @@
--- `lists::numbering::match_rows` meets its contract. Assumes nothing.
+-- `lists::matching::match_rows` meets its contract. Assumes nothing.
 use Prim.Native.Nat.{_+_, _*_, _-_, _≤_}
 use mathlib.Core.List.{[], _∷_}
 use mathlib.Core.Path.{_≡_, refl, _∙_}
@@ -13,8 +13,8 @@ use Rattle.lists.proofs.Chains.{met-none, met-trans}
 use Rattle.lists.proofs.Matches.{comparable-next, others-all}
 use Rattle.lists.proofs.Rows.{length-rows, rows-snoc, row-below, part-row, length-part}
 use Rattle.lists.proofs.Tests.{not-both}
-use Rattle.lists.proofs.numbering.match_rows.Statement.{statement}
-use Rattle.lists.proofs.numbering.match_rows.Tie as tie
+use Rattle.lists.proofs.matching.match_rows.Statement.{statement}
+use Rattle.lists.proofs.matching.match_rows.Tie as tie
 
 abbrev Inv-loop : tie.InvT-loop
 Inv-loop list head₀ next₀ n most given w count numbers₀ at m₀ q₀ head next numbers m q = (q ≤ count) × (length head ≡ length head₀) × (length next ≡ length next₀) × (length numbers ≡ length numbers₀) × (m ≤ most)
