@@ -16,7 +16,8 @@ use Rattle.complex.specs.declared.numbering.Face.the-variants.{Edge, Tri
 use Rattle.complex.specs.declared.holding.Shape.{Shape}
 use Rattle.complex.specs.Complex.{countOf, edges, triangles, numbersOf}
 use Rattle.complex.specs.Builder.{Lists}
-use Rattle.complex.specs.Check.{pentsIn, edgesIn, trianglesIn, allRise, hasPents, hasFaces, hasAllFaces, holds, hasAdjacency, isBuilt}
+use Rattle.complex.specs.Check.{pentsIn, edgesIn, trianglesIn, holds, isBuilt}
+use Rattle.complex.specs.CheckParts.{allRise, hasPents, hasFaces, hasAllFaces, hasAdjacency}
 use Rattle.complex.specs.Parts.{Holdable, Faced}
 use Rattle.complex.proofs.FaceNumbers.{length-numbers}
 use Rattle.complex.proofs.FaceLists.{has-says, has-rows, has-room}

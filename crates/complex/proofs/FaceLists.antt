@@ -20,7 +20,7 @@ use Rattle.lists.proofs.Chains.{indexed-none, met-count, met-rows, met-numbers}
 use Rattle.lists.proofs.Matches.{stand-front}
 use Rattle.complex.specs.declared.numbering.Face.{Face}
 use Rattle.complex.specs.Complex.{widthOf, countOf, facesOf, metFaces, faces, numbersOf}
-use Rattle.complex.specs.Check.{hasFaces}
+use Rattle.complex.specs.CheckParts.{hasFaces}
 use Rattle.complex.specs.Parts.{Searched}
 use Rattle.complex.proofs.Meetings.{count-le, length-met, met-next}
 use Rattle.complex.proofs.Lying.{choice-of, faces-only}

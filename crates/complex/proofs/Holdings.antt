@@ -22,7 +22,8 @@ use Rattle.lists.proofs.Rows.{length-rows, rowPart, row-part, length-starts, st
 use Rattle.lists.proofs.Grouped.{flat-groups, order-full}
 use Rattle.complex.specs.declared.holding.Shape.{Shape}
 use Rattle.complex.specs.Complex.{holding, edges, triangles, rowNumbers}
-use Rattle.complex.specs.Check.{lying, partLies, holds}
+use Rattle.complex.specs.Check.{holds}
+use Rattle.complex.specs.CheckParts.{lying, partLies}
 use Rattle.complex.specs.Parts.{Holdable}
 use Rattle.complex.proofs.Lying.{Sorted, Keyed, mem-holding, holding-mem, groups-holding}
 use Rattle.complex.proofs.Laws.{holding-rising}

@@ -10,7 +10,7 @@ use lib.Seq.{drop-drop}
 use Rattle.lists.specs.Lists.{Rising}
 use Rattle.lists.specs.Rows.{rows}
 use Rattle.lists.proofs.Tests.{Says, pass, fail, ltb-says, and-says}
-use Rattle.complex.specs.Check.{rises, allRise}
+use Rattle.complex.specs.CheckParts.{rises, allRise}
 
 -- a rising list of vertices below n
 abbrev pub RisesBelow : ℕ → List ℕ → Type 0

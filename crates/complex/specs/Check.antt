@@ -1,22 +1,20 @@
 -- The check behind refusal 7: when counts and lists are those of a built complex, and what the check answers and leaves. Definitions only.
-use Prim.Native.Nat.{ℕ, _+_, _*_, _-_}
+use Prim.Native.Nat.{ℕ, _+_, _*_}
 use mathlib.Core.Path.{_≡_}
-use mathlib.Core.Bool.{Bool, true, false, not, cond, _&&_, _||_}
-use mathlib.Core.List.{List, [], _∷_, map}
+use mathlib.Core.Bool.{Bool, false, not, cond, _&&_, _||_}
+use mathlib.Core.List.{List, map}
 use lib.Dec.{eqb, ltb, leb}
-use lib.ListN.{length, getD, take, drop}
+use lib.ListN.{length, take}
 use Rattle.refusals.specs.declared.Refusal.the-variants.{NotBuilt, ShortRoom}
 use Rattle.refusals.specs.declared.Outcome.{Outcome}
 use Rattle.refusals.specs.declared.Outcome.the-variants as Outcome
 use Rattle.lists.specs.Rows.{flat, rows, starts, over, begins}
-use Rattle.lists.specs.Lists.{within}
 use Rattle.complex.specs.declared.Counts.{Counts}
 use Rattle.complex.specs.declared.Built.{Built}
 use Rattle.complex.specs.declared.Built.the-variants.{Done, Refused}
-use Rattle.complex.specs.declared.numbering.Face.{Face}
-use Rattle.complex.specs.declared.numbering.Face.the-variants.{Edge, Triangle, Tet}
+use Rattle.complex.specs.declared.numbering.Face.the-variants.{Edge, Triangle}
 use Rattle.complex.specs.declared.checks.Rooms.{Rooms}
-use Rattle.complex.specs.Complex.{faces, edges, triangles, holding, numbersOf}
+use Rattle.complex.specs.Complex.{edges, triangles, holding, numbersOf}
 use Rattle.complex.specs.Builder.{sortedPents, checkOf, builtOf, Lists, written}
 
 -- ---- the rows of the lent lists
@@ -32,6 +30,12 @@ edgesIn c edges = rows 2 (c .edges) edges
 -- the triangles
 abbrev pub trianglesIn : Counts → List ℕ → List (List ℕ)
 trianglesIn c triangles = rows 3 (c .triangles) triangles
+
+-- ---- adjacency lists
+
+-- items and starts begin with the numbers of the rows in which each key lies
+unfoldable pub holds : List (List ℕ) → List (List ℕ) → List ℕ → List ℕ → Bool
+holds rs keys items ss = begins (flat (map (holding rs) keys)) items && begins (starts (map (holding rs) keys)) ss
 
 -- ---- a built complex
 
@@ -80,52 +84,6 @@ beginAll new l =
 -- 'Built' of 01: counts and lists are what the builder answers and writes for the vertex count and the pentachoron list
 unfoldable pub isBuilt : Counts → Lists → Bool
 isBuilt c l = leb (5 * c .pentachorons) (length (l .pents)) && answers (answerFor c l) c && beginAll (written (sortedPents (givenOf c l))) l
-
--- ---- the parts of the check
-
--- each vertex is below the next, and the last below n
-unfoldable pub rises : ℕ → List ℕ → Bool
-rises n [] = true
-rises n (v ∷ []) = ltb v n
-rises n (v ∷ w ∷ p) = ltb v w && rises n (w ∷ p)
-
--- so it is in every pentachoron
-unfoldable pub allRise : ℕ → List (List ℕ) → Bool
-allRise n [] = true
-allRise n (p ∷ ps) = rises n p && allRise n ps
-
--- there is a sorted pentachoron list that the builder takes
-unfoldable pub hasPents : Counts → List ℕ → Bool
-hasPents c pents =
-    not (eqb (c .vertices) 0) && leb (c .vertices) 4096 && leb (c .pentachorons) 8192 && leb (5 * c .pentachorons) (length pents)
-    && allRise (c .vertices) (pentsIn c pents)
-
--- a list begins with the faces of a kind, and n is their count
-unfoldable pub hasFaces : Face → List (List ℕ) → ℕ → List ℕ → Bool
-hasFaces f ps n list = eqb n (length (faces f ps)) && begins (flat (faces f ps)) list
-
--- so do the three lists of faces
-unfoldable pub hasAllFaces : Counts → List (List ℕ) → List ℕ → List ℕ → List ℕ → Bool
-hasAllFaces c ps es ts ks = hasFaces Tet ps (c .tets) ks && hasFaces Edge ps (c .edges) es && hasFaces Triangle ps (c .triangles) ts
-
--- the items are numbers of rows in which s lies, rising and none below lo
-unfoldable pub lying : List (List ℕ) → List ℕ → ℕ → List ℕ → Bool
-lying rs s lo [] = true
-lying rs s lo (i ∷ is) = leb lo i && ltb i (length rs) && within s (getD rs i []) && lying rs s (i + 1) is
-
--- starts j and j + 1 do not fall and lie within the items, and the items between them are such numbers
-unfoldable pub partLies : List (List ℕ) → List ℕ → List ℕ → List ℕ → ℕ → Bool
-partLies rs s items ss j =
-    leb (getD ss j 0) (getD ss (j + 1) 0) && leb (getD ss (j + 1) 0) (length items)
-    && lying rs s 0 (take (getD ss (j + 1) 0 - getD ss j 0) (drop (getD ss j 0) items))
-
--- items and starts begin with the numbers of the rows in which each key lies
-unfoldable pub holds : List (List ℕ) → List (List ℕ) → List ℕ → List ℕ → Bool
-holds rs keys items ss = begins (flat (map (holding rs) keys)) items && begins (starts (map (holding rs) keys)) ss
-
--- so do the three adjacency lists
-unfoldable pub hasAdjacency : List (List ℕ) → List ℕ → List ℕ → List ℕ → List ℕ → List ℕ → List ℕ → Bool
-hasAdjacency ps tp tps et ets ep eps = holds ps (triangles ps) tp tps && holds (triangles ps) (edges ps) et ets && holds ps (edges ps) ep eps
 
 -- ---- the answer
 

@@ -2,6 +2,7 @@
 pub mod Complex
 pub mod Builder
 pub mod Check
+pub mod CheckParts
 pub mod Parts
 pub mod Pushed
 pub mod Incidence

@@ -13,7 +13,8 @@ use Rattle.complex.specs.Complex.{widthOf, countOf, faces, numbersOf, ho
 use Rattle.complex.specs.declared.holding.Shape.{Shape}
 use Rattle.complex.specs.declared.Counts.{Counts}
 use Rattle.complex.specs.Builder.{Lists, pentachorons}
-use Rattle.complex.specs.Check.{pentsIn, hasFaces}
+use Rattle.complex.specs.Check.{pentsIn}
+use Rattle.complex.specs.CheckParts.{hasFaces}
 
 -- whole pentachorons, and room for the links of the chains and the numbers of their faces
 pub record Searched (f : Face) (P pents next numbers : ℕ) : Type 0 where

@@ -13,7 +13,8 @@ ghost use Prim.Native.Nat.{_+_, _*_, _/_, _≤_};
 ghost use lib.ListN.{length, take, drop};
 ghost use Rattle.lists.specs.Rows.{rows};
 ghost use Rattle.complex.specs.Builder.{lists};
-ghost use Rattle.complex.specs.Check.{pentsIn, isBuilt, rises, allRise, hasPents, hasAllFaces, hasAdjacency, Checked};
+ghost use Rattle.complex.specs.Check.{pentsIn, isBuilt, Checked};
+ghost use Rattle.complex.specs.CheckParts.{rises, allRise, hasPents, hasAllFaces, hasAdjacency};
 ghost use Rattle.complex.specs.Parts.{Scratch, Noted, Faced};
 
 // Whether the vertices of the pentachoron at `at` rise, and the last is below n.

@@ -5,7 +5,8 @@ ghost use Prim.Native.Nat.{_+_, _*_, _≤_, _<_};
 ghost use lib.ListN.{length};
 ghost use Rattle.lists.specs.Lists.{within};
 ghost use Rattle.lists.specs.Rows.{rows};
-ghost use Rattle.complex.specs.Check.{lying, partLies, holds};
+ghost use Rattle.complex.specs.Check.{holds};
+ghost use Rattle.complex.specs.CheckParts.{lying, partLies};
 ghost use Rattle.complex.specs.Parts.{Holdable};
 
 // How many numbers a row of a flat list has, and how many rows there are.

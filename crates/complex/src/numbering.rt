@@ -9,7 +9,7 @@ ghost use lib.ListN.{length, getD, take, drop};
 ghost use Rattle.lists.specs.Lists.{upto};
 ghost use Rattle.lists.specs.Rows.{rows, over};
 ghost use Rattle.complex.specs.Complex.{widthOf, countOf, facesOf, numbersOf};
-ghost use Rattle.complex.specs.Check.{hasFaces};
+ghost use Rattle.complex.specs.CheckParts.{hasFaces};
 ghost use Rattle.complex.specs.Parts.{Faces, Numbered, Searched};
 
 // Two lists of numbers, one after the other.

@@ -1,5 +1,5 @@
 -- The examples P1 to P9 of the scope paper as one list, and the one claim made of each: what a definition gives is what the paper says. Definitions only.
-use Prim.Native.Nat.{ℕ, suc, _+_, _*_, _/_, _%_}
+use Prim.Native.Nat.{ℕ, suc, _/_, _%_}
 use mathlib.Core.Path.{_≡_}
 use mathlib.Core.Bool.{Bool, true, cond}
 use mathlib.Core.List.{List, [], _∷_, _++_}

@@ -6,7 +6,7 @@ use native.Mathlib.Omega.{arith}
 use lib.ListN.{length, drop}
 use borrow.Author.Needs.{needs}
 use borrow.Author.Tests.{not-true, not-false}
-use Rattle.complex.specs.Check.{allRise}
+use Rattle.complex.specs.CheckParts.{allRise}
 use Rattle.lists.specs.Rows.{rows}
 use Rattle.complex.proofs.Rises.{rise-turn}
 use Rattle.complex.proofs.comparison.all_rise.Statement.{statement}

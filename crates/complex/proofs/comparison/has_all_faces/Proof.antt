@@ -2,7 +2,7 @@
 use mathlib.Core.Path.{refl, sym, _∙_}
 use borrow.Author.Needs.{needs}
 use borrow.Author.Tests.{not-true, not-false}
-use Rattle.complex.specs.Check.{hasAllFaces}
+use Rattle.complex.specs.CheckParts.{hasAllFaces}
 use Rattle.lists.proofs.Rows.{begins-over}
 use Rattle.lists.proofs.Tests.{not-both}
 use Rattle.complex.proofs.comparison.has_all_faces.Statement.{statement}

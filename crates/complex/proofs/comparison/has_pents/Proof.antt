@@ -6,7 +6,7 @@ use lib.ListN.{length, take}
 use lib.Seq.{length-take-le}
 use borrow.Author.Needs.{needs}
 use borrow.Author.Tests.{eq-eqb, ne-eqb, le-leb, lt-leb}
-use Rattle.complex.specs.Check.{hasPents}
+use Rattle.complex.specs.CheckParts.{hasPents}
 use Rattle.lists.proofs.Rows.{rows-take}
 use Rattle.complex.proofs.comparison.has_pents.Statement.{statement}
 use Rattle.complex.proofs.comparison.has_pents.Tie as tie

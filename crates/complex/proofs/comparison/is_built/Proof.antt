@@ -5,7 +5,8 @@ use native.Mathlib.Omega.{arith}
 use borrow.Author.Needs.{needs}
 use borrow.Author.Tests.{not-true, not-false}
 use Rattle.complex.specs.Builder.{lists}
-use Rattle.complex.specs.Check.{pentsIn, hasPents, hasAllFaces}
+use Rattle.complex.specs.Check.{pentsIn}
+use Rattle.complex.specs.CheckParts.{hasPents, hasAllFaces}
 use Rattle.complex.proofs.BuiltComplex.{given-long, given-rows}
 use Rattle.complex.proofs.Comparisons.{pents-pass, faced, built-parts}
 use Rattle.lists.proofs.Tests.{not-both}

@@ -3,7 +3,7 @@ use Prim.Native.Nat.{_+_}
 use mathlib.Core.Path.{refl}
 use native.Mathlib.Omega.{arith}
 use borrow.Author.Needs.{needs}
-use Rattle.complex.specs.Check.{rises}
+use Rattle.complex.specs.CheckParts.{rises}
 use Rattle.complex.proofs.Sorted.{take-five}
 use Rattle.complex.proofs.comparison.rises_at.Statement.{statement}
 use Rattle.complex.proofs.comparison.rises_at.Tie as tie

@@ -9,7 +9,7 @@ use borrow.Author.Tests.{not-true, not-false}
 use Rattle.lists.specs.Rows.{rows}
 use Rattle.lists.proofs.Tests.{fails, says-same, eqb-says, below-next}
 use Rattle.lists.proofs.Rows.{row-below, rowPart}
-use Rattle.complex.specs.Check.{partLies}
+use Rattle.complex.specs.CheckParts.{partLies}
 use Rattle.complex.proofs.Holdings.{holds-says}
 use Rattle.complex.proofs.holding.is_holding.Statement.{statement}
 use Rattle.complex.proofs.holding.is_holding.Tie as tie

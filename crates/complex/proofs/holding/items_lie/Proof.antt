@@ -7,7 +7,7 @@ use borrow.Author.Needs.{needs}
 use borrow.Author.Tests.{not-true, not-false, lt-leb, le-leb, le-ltb}
 use Rattle.lists.specs.Rows.{rows}
 use Rattle.lists.proofs.Rows.{length-rows, row-below}
-use Rattle.complex.specs.Check.{lying}
+use Rattle.complex.specs.CheckParts.{lying}
 use Rattle.complex.proofs.Holdings.{lying-turn, lying-row}
 use Rattle.complex.proofs.holding.items_lie.Statement.{statement}
 use Rattle.complex.proofs.holding.items_lie.Tie as tie

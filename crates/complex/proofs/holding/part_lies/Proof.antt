@@ -5,7 +5,7 @@ use native.Mathlib.Omega.{arith}
 use lib.ListN.{length, getD}
 use borrow.Author.Needs.{needs}
 use borrow.Author.Tests.{le-leb, lt-leb}
-use Rattle.complex.specs.Check.{partLies}
+use Rattle.complex.specs.CheckParts.{partLies}
 use Rattle.complex.proofs.holding.part_lies.Statement.{statement}
 use Rattle.complex.proofs.holding.part_lies.Tie as tie
 
