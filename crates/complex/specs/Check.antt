@@ -14,7 +14,7 @@ use Rattle.complex.specs.declared.Built.{Built}
 use Rattle.complex.specs.declared.Built.the-variants.{Done, Refused}
 use Rattle.complex.specs.declared.numbering.Face.the-variants.{Edge, Triangle}
 use Rattle.complex.specs.declared.checks.Rooms.{Rooms}
-use Rattle.complex.specs.Complex.{edges, triangles, holding, numbersOf}
+use Rattle.complex.specs.Complex.{holding, numbersOf}
 use Rattle.complex.specs.Builder.{sortedPents, checkOf, builtOf, Lists, written}
 
 -- ---- the rows of the lent lists
