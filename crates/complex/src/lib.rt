@@ -1,4 +1,5 @@
-// The complex of a list of pentachorons: faces numbered by first meeting, adjacency lists, and incidence.
+// The complex of a list of pentachorons: faces numbered by first meeting, adjacency lists, the check of lists that are lent, and
+// incidence.
 mod adjacency;
 mod builder;
 mod checks;

@@ -30,12 +30,12 @@ stand-front w e m ks ts st =
           ∙ take-at ks (g .0) (length ks) refl;
     }
 
+less : {n m : ℕ} → n ≤ m → (n ≡ m → ⊥) → n < m
+less l f = omega arith
+
 -- row n ends among m rows
 pub next-room : (w n m : ℕ) → n ≤ m → (n ≡ m → ⊥) → w * n + w ≤ w * m
-next-room w n m l f = row-below w n m (below l f)
-  where
-    below : {n m : ℕ} → n ≤ m → (n ≡ m → ⊥) → n < m
-    below l f = omega arith
+next-room w n m l f = row-below w n m (less l f)
 
 -- ---- one row
 
@@ -87,7 +87,7 @@ module _ (w : ℕ) (e h x u : List ℕ) (n m at k : ℕ) (s : List ℕ) (ok : Co
       compared-new t =
           let here : s ≡ take (length s) (drop (w * n) e) = said (eqs-says s (take (length s) (drop (w * n) e))) t in
           let room : w * n + w ≤ w * m = next-room w n m (ok .known) other in
-          let below : n < m = above in
+          let below : n < m = less (ok .known) other in
           let stored : e ≡ take (w * n) e ++ s ++ drop (w * n + length s) e =
           sym (take-append-drop (w * n) e)
           ∙ ap (λ (l : List ℕ). take (w * n) e ++ l) (sym (take-append-drop (length s) (drop (w * n) e)) ∙ (λ i. sym here i ++ swap i))
@@ -97,12 +97,6 @@ module _ (w : ℕ) (e h x u : List ℕ) (n m at k : ℕ) (s : List ℕ) (ok : Co
             no = λ f. absurd (not-both refl f);
           }
         where
-          above : n < m
-          above = strict (ok .known) other
-            where
-              strict : {n m : ℕ} → n ≤ m → (n ≡ m → ⊥) → n < m
-              strict l f = omega arith
-
           swap : drop (length s) (drop (w * n) e) ≡ drop (w * n + length s) e
           swap = drop-drop (length s) (w * n) e
 

@@ -1,7 +1,7 @@
 -- What a test says: a proposition where it passes, its negation where it fails. Assumes nothing.
-use mathlib.Core.Path.{_≡_, refl, subst}
+use mathlib.Core.Path.{_≡_, refl, sym, _∙_, subst}
 use mathlib.Core.Logic.{_⊎_, inl, inr, ⊎-elim}
-use mathlib.Core.Bool.{Bool, true, false, not, _&&_, _||_}
+use mathlib.Core.Bool.{Bool, true, false, true≢false, not, _&&_, _||_}
 use Prim.Native.Nat.{ℕ, _+_, _≤_, _<_}
 use native.Mathlib.Omega.{arith}
 use lib.Dec.{T, eqb, ltb, leb, eqb→eq, eqb-refl, T-not, ltb→lt, lt→ltb, leb→le, le→leb}
@@ -70,7 +70,7 @@ and-true false b e = absurd (let z : _≡_ {A = ℕ} 0 1 = cc in omega arith)
 
 -- no test both passes and fails
 pub not-both : {b : Bool} → b ≡ true → b ≡ false → ⊥
-not-both p q = let z : _≡_ {A = ℕ} 0 1 = cc in omega arith
+not-both p q = true≢false (sym p ∙ q)
 
 pub said : {P : Type 0} {b : Bool} → Says P b → b ≡ true → P
 said (pass p) e = p
