@@ -19,7 +19,7 @@ use Rattle.complex.specs.declared.numbering.Face.the-variants.{Edge, Tri
 use Rattle.complex.specs.Complex.{faces, edges, triangles, triToPents, edgeToTris, edgeToPents}
 use Rattle.complex.specs.Builder.{sortedPents, isShort, checkOf, builtOf, countsOf, Lists, written, overAll, listsAfter, roomsOf, Builds}
 use Rattle.complex.specs.Check.{pentsIn, givenOf, beginAll, isBuilt, holds}
-use Rattle.complex.proofs.Sorted.{sorted-wide-all, length-sorted-all}
+use Rattle.complex.proofs.SortedPents.{sorted-wide-all, length-sorted-all}
 use Rattle.complex.proofs.Offences.{or-false, check-done, length-passed}
 use Rattle.complex.proofs.FaceLists.{HasFaces}
 use Rattle.complex.proofs.Rises.{AllRise}
@@ -85,13 +85,19 @@ answered-done : (o : Outcome) (n : ℕ) (given : List ℕ) (c : Counts) → Done
 answered-done Outcome.Done n given c e = (refl, cc)
 answered-done (Outcome.Refused r) n given c e = absurd (let z : _≡_ {A = ℕ} 0 1 = cc in omega arith)
 
+-- what a builder that answers with counts has answered and left
+pub builder-left : (n : ℕ) (given : List ℕ) (before after : Lists) (c : Counts) → Builds n given before (Done c) after
+    → (checkOf n given (roomsOf before) ≡ Outcome.Done) × (c ≡ countsOf n (sortedPents given)) × (after ≡ overAll (written (sortedPents given)) before)
+builder-left n given before after c b =
+    let d = answered-done (checkOf n given (roomsOf before)) n given c (b .answered) in
+    (d .0, d .1, b .left ∙ ap (λ (o : Outcome). listsAfter o given before) (d .0))
+
 -- what the builder answers and leaves is built
 pub builder-built : (n : ℕ) (given : List ℕ) (before after : Lists) (c : Counts) → Builds n given before (Done c) after → isBuilt c after ≡ true
 unfolding qs c after
 builder-built n given before after c b =
-    let d = answered-done (checkOf n given (roomsOf before)) n given c (b .answered) in
-    let e : after ≡ overAll (written (sortedPents given)) before = b .left ∙ ap (λ (o : Outcome). listsAfter o given before) (d .0) in
-    rw (d .1, e) (passes (built-says (countsOf n (sortedPents given)) (overAll (written (sortedPents given)) before)) (left-built n given before (d .0)))
+    let d = builder-left n given before after c b in
+    rw (d .1, d .2) (passes (built-says (countsOf n (sortedPents given)) (overAll (written (sortedPents given)) before)) (left-built n given before (d .0)))
 
 -- ---- a built complex, built again
 

@@ -22,7 +22,7 @@ use Rattle.complex.specs.Incidence.{Tens, Simplices, Lie}
 use Rattle.complex.specs.Complex.{numbersOf, edges, triangles, triToPents, edgeToTris, edgeToPents}
 use Rattle.complex.specs.Builder.{pentachorons, sortedPents, offence, isShort, checkOf, builtOf, countsOf, Lists, written}
 use Rattle.complex.specs.Check.{pentsIn, edgesIn, trianglesIn, givenOf, roomFor, answerFor, sameCounts, answers, beginAll, isBuilt, holds}
-use Rattle.complex.proofs.Sorted.{sorted-wide-all, length-sorted-all, sorted-is, sorted-of}
+use Rattle.complex.proofs.SortedPents.{sorted-wide-all, length-sorted-all, sorted-is, sorted-of}
 use Rattle.complex.proofs.Offences.{or-false, offence-done, once-of, check-done, done-check, length-passed}
 use Rattle.complex.proofs.Laws.{all-sorted, not-large, all-below, no-repeat, no-offence}
 use Rattle.complex.proofs.FaceLists.{HasFaces, has-rows}

@@ -15,7 +15,7 @@ use Rattle.complex.specs.declared.numbering.Face.{Face}
 use Rattle.complex.specs.declared.numbering.Face.the-variants.{Edge, Triangle}
 use Rattle.complex.specs.Complex.{countOf, facesOf, metFaces, faces, edges, triangles, triToPents, edgeToTris, edgeToPents, numbersOf, rowNumbers}
 use Rattle.complex.specs.Parts.{edgePlaces, edgeAt, Consistent, EdgesOf}
-use Rattle.complex.proofs.Sorted.{five-of}
+use Rattle.complex.proofs.SortedPents.{five-of}
 use Rattle.complex.proofs.Meetings.{count-faces, length-met}
 use Rattle.complex.proofs.TriangleEdges.{place-below}
 use Rattle.complex.proofs.Lying.{Sorted, Keyed, faces-distinct, faces-has, face-rising, edge-of-triangle, groups-holding}

@@ -19,7 +19,7 @@ use Rattle.lists.proofs.Rows.{length-rows, length-flat}
 use Rattle.lists.proofs.Sorting.{sort-ascending, sort-times, sort-mem, sort-once, sort-sorted}
 use Rattle.complex.specs.Complex.{holding}
 use Rattle.complex.specs.Builder.{pentachorons, sortedPents, tooLarge, repeats, offence, checkOf, builtOf, Lists, roomsOf, listsAfter}
-use Rattle.complex.proofs.Sorted.{sorted-wide-all, length-sorted-all, sorted-is, sorted-of, sorted-back}
+use Rattle.complex.proofs.SortedPents.{sorted-wide-all, length-sorted-all, sorted-is, sorted-of, sorted-back}
 use Rattle.complex.proofs.Offences.{or-false, offence-done, once-of, passed, check-same}
 
 -- ---- the pentachorons

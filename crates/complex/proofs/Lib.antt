@@ -1,6 +1,6 @@
 -- Laws on complexes, for proofs here and in the crates above.
 pub mod Offences
-pub mod Sorted
+pub mod SortedPents
 pub mod Meetings
 pub mod TriangleEdges
 pub mod Lying

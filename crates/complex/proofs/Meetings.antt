@@ -15,7 +15,7 @@ use Rattle.lists.proofs.Chains.{indexed-none, met-count, met-rows, met-numbers}
 use Rattle.complex.specs.declared.numbering.Face.{Face}
 use Rattle.complex.specs.declared.numbering.Face.the-variants.{Edge, Triangle, Tet}
 use Rattle.complex.specs.Complex.{widthOf, countOf, facesOf, metFaces, faces, numbersOf}
-use Rattle.complex.proofs.Sorted.{five-of}
+use Rattle.complex.proofs.SortedPents.{five-of}
 use Rattle.complex.specs.Parts.{Faces, Numbered}
 
 -- ---- how many there are

@@ -35,7 +35,8 @@ offence-turn n k c ps h =
 
 -- ---- what passed
 
-cond-done : (b : Bool) (r : Refusal) (x : Outcome) → cond b (Refused r) x ≡ Done → (b ≡ false) × (x ≡ Done)
+-- a test that refuses was not met where the call is done
+pub cond-done : (b : Bool) (r : Refusal) (x : Outcome) → cond b (Refused r) x ≡ Done → (b ≡ false) × (x ≡ Done)
 cond-done true r x h = absurd (let z : _≡_ {A = ℕ} 0 1 = cc in omega arith)
 cond-done false r x h = (refl, h)
 

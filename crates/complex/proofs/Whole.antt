@@ -17,7 +17,7 @@ use Rattle.complex.specs.declared.numbering.Face.the-variants.{Edge, Tri
 use Rattle.complex.specs.Complex.{widthOf, countOf, faces, edges, triangles, tets, triToPents, edgeToTris, edgeToPents, numbersOf}
 use Rattle.complex.specs.Builder.{pentachorons, sortedPents, countsOf, Lists, lists, written, overAll}
 use Rattle.complex.specs.Parts.{Faces, Numbered, EdgesOf, Lent, Adjacent, Buildable}
-use Rattle.complex.proofs.Sorted.{sorted-wide-all, length-sorted-all, sorted-back}
+use Rattle.complex.proofs.SortedPents.{sorted-wide-all, length-sorted-all, sorted-back}
 use Rattle.complex.proofs.Meetings.{count-le}
 use Rattle.complex.proofs.Lying.{Sorted}
 use Rattle.complex.proofs.FaceNumbers.{length-numbers, numbers-below, face-met, consistent, faces-few, tri-to-pents, edge-to-pents, edge-to-tris-stored}

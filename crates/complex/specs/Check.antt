@@ -94,7 +94,7 @@ checkedOf c l edges tris =
     (cond (ltb edges (10 * c .pentachorons) || ltb tris (10 * c .pentachorons)) (Outcome.Refused ShortRoom) Outcome.Done)
 
 -- a lent list after the check, by its answer: unchanged where it refuses
-abbrev pub notedAfter : Outcome → List ℕ → List ℕ → List ℕ
+abbrev pub notedAfter : {A : Type 0} → Outcome → List A → List A → List A
 notedAfter Outcome.Done numbers old = over numbers old
 notedAfter (Outcome.Refused r) numbers old = old
 

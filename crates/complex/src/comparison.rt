@@ -168,7 +168,7 @@ fn has_adjacency(
 
 // Whether counts and lists are what the builder answers and writes. The numbers of the edges and triangles of each pentachoron
 // are noted.
-fn is_built(
+fn compare(
     counts: Counts,
     pents: &[u32],
     edges: &[u32],
@@ -218,6 +218,43 @@ fn is_built(
     )
 }
 
+// Whether a complex is built: its counts and lists are what the builder answers and writes.
+pub fn is_built(
+    counts: Counts,
+    pents: &[u32],
+    edges: &[u32],
+    triangles: &[u32],
+    tets: &[u32],
+    tri_to_pents_items: &[u32],
+    tri_to_pents_starts: &[u32],
+    edge_to_tris_items: &[u32],
+    edge_to_tris_starts: &[u32],
+    edge_to_pents_items: &[u32],
+    edge_to_pents_starts: &[u32],
+) -> bool
+    ensures { λ r. ⌜ r ≡ isBuilt counts (lists (now (pents .entry)) (now (edges .entry)) (now (triangles .entry)) (now (tets .entry))
+        (now («tri_to_pents_items» .entry)) (now («tri_to_pents_starts» .entry)) (now («edge_to_tris_items» .entry)) (now («edge_to_tris_starts» .entry))
+        (now («edge_to_pents_items» .entry)) (now («edge_to_pents_starts» .entry))) ⌝ }
+{
+    let mut edge_numbers = [0u32; 81920];
+    let mut tri_numbers = [0u32; 81920];
+    compare(
+        counts,
+        pents,
+        edges,
+        triangles,
+        tets,
+        tri_to_pents_items,
+        tri_to_pents_starts,
+        edge_to_tris_items,
+        edge_to_tris_starts,
+        edge_to_pents_items,
+        edge_to_pents_starts,
+        &mut edge_numbers,
+        &mut tri_numbers,
+    )
+}
+
 // The check behind refusal 7, and the ten edge numbers and ten triangle numbers of each pentachoron. A refused call leaves both
 // lists as they were; otherwise the places that are not written are kept.
 pub fn check_built(
@@ -242,7 +279,7 @@ pub fn check_built(
 {
     let mut edge_numbers = [0u32; 81920];
     let mut tri_numbers = [0u32; 81920];
-    if !is_built(
+    if !compare(
         counts,
         pents,
         edges,

@@ -11,6 +11,7 @@ mod sorting;
 
 use checks::Rooms;
 pub use comparison::check_built;
+pub use comparison::is_built;
 pub use incidence::EdgeNumber;
 pub use incidence::Opposite;
 pub use incidence::PentachoronNumber;
@@ -25,6 +26,7 @@ pub use incidence::tri_edge_indices;
 pub use incidence::tris_of_edge;
 use refusals::Outcome;
 use refusals::Refusal;
+pub use sorting::sorted;
 ghost use mathlib.Core.Path.{_≡_};
 ghost use Rattle.complex.specs.Builder.{builtNumber, builtPlace, countsOr, lists, Builds};
 

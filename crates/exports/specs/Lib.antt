@@ -1,2 +1,3 @@
 -- The definitions that contracts of exported functions cite.
 pub mod Complexes
+pub mod Lattices

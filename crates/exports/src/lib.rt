@@ -2,6 +2,10 @@
 use complex::Counts;
 use complex::check_built;
 use complex::from_pentachorons;
+use foliation::Lattice;
+use foliation::edge_types;
+use foliation::flat_minkowski_sq_lengths;
+use foliation::foliated_hypercubic;
 use geometry::cofactor_6x6;
 use lorentzian::all_lorentzian_dihedrals;
 use lorentzian::lorentzian_dihedral;
@@ -17,7 +21,10 @@ ghost use Rattle.fdlibm.specs.Acos.{acosOf};
 ghost use Rattle.fdlibm.specs.Acosh.{acoshOf};
 ghost use Rattle.fdlibm.specs.Asinh.{asinhOf};
 ghost use Rattle.complex.specs.Builder.{lists};
+ghost use Rattle.complex.specs.Check.{edgesIn};
+ghost use Rattle.foliation.specs.Edges.{typesOf, lengthsOf};
 ghost use Rattle.exports.specs.Complexes.{countsOfList, countsList, Built, Checked};
+ghost use Rattle.exports.specs.Lattices.{latticeOf, Listed, Filled};
 ghost use Rattle.geometry.specs.CayleyMenger.{cm, cofactors};
 ghost use Rattle.geometry.specs.Answer as Cofactor;
 ghost use Rattle.lorentzian.specs.Triangle.{areaSq, areaSqGrad, gradOutcome, gradAfter};
@@ -299,6 +306,115 @@ pub extern "C" fn cjapthumi_check_built(
         pent_tris,
     );
     outcome.number()
+}
+
+// ---- lattices
+
+// `count` gets the number of pentachorons, and keeps its content where the call is refused.
+#[no_mangle]
+pub extern "C" fn cjapthumi_foliated_hypercubic(
+    n_t: usize,
+    n_s: usize,
+    pents: &mut [u32],
+    count: &mut usize,
+) -> u32
+    ensures { λ r. ⌜ Listed (latticeOf «n_t» «n_s») (now (pents .entry)) (now (count .entry)) r (now (pents .exit)) (now (count .exit)) ⌝ }
+{
+    let listed = foliated_hypercubic(lattice_of(n_t, n_s), pents);
+    *count = listed.count_or(*count);
+    listed.number()
+}
+
+// A type is 0 for Spatial, 1 for Timelike and 2 for Diagonal.
+#[no_mangle]
+pub extern "C" fn cjapthumi_edge_types(
+    n_t: usize,
+    n_s: usize,
+    counts: &[usize; 5],
+    pents: &[u32],
+    edges: &[u32],
+    triangles: &[u32],
+    tets: &[u32],
+    tri_to_pents_items: &[u32],
+    tri_to_pents_starts: &[u32],
+    edge_to_tris_items: &[u32],
+    edge_to_tris_starts: &[u32],
+    edge_to_pents_items: &[u32],
+    edge_to_pents_starts: &[u32],
+    types: &mut [u8],
+) -> u32
+    ensures { λ r. ⌜ Filled (latticeOf «n_t» «n_s») (now (counts .entry)) (lists (now (pents .entry)) (now (edges .entry)) (now (triangles .entry)) (now (tets .entry))
+        (now («tri_to_pents_items» .entry)) (now («tri_to_pents_starts» .entry)) (now («edge_to_tris_items» .entry)) (now («edge_to_tris_starts» .entry))
+        (now («edge_to_pents_items» .entry)) (now («edge_to_pents_starts» .entry)))
+        (typesOf (latticeOf «n_t» «n_s») (edgesIn (countsOfList (now (counts .entry))) (now (edges .entry)))) (now (types .entry)) r (now (types .exit)) ⌝ }
+{
+    let outcome = edge_types(
+        lattice_of(n_t, n_s),
+        counts_of(*counts),
+        pents,
+        edges,
+        triangles,
+        tets,
+        tri_to_pents_items,
+        tri_to_pents_starts,
+        edge_to_tris_items,
+        edge_to_tris_starts,
+        edge_to_pents_items,
+        edge_to_pents_starts,
+        types,
+    );
+    outcome.number()
+}
+
+#[no_mangle]
+pub extern "C" fn cjapthumi_flat_minkowski_sq_lengths(
+    n_t: usize,
+    n_s: usize,
+    counts: &[usize; 5],
+    pents: &[u32],
+    edges: &[u32],
+    triangles: &[u32],
+    tets: &[u32],
+    tri_to_pents_items: &[u32],
+    tri_to_pents_starts: &[u32],
+    edge_to_tris_items: &[u32],
+    edge_to_tris_starts: &[u32],
+    edge_to_pents_items: &[u32],
+    edge_to_pents_starts: &[u32],
+    spacing: f64,
+    dt: f64,
+    sq_lengths: &mut [f64],
+) -> u32
+    ensures { λ r. ⌜ Filled (latticeOf «n_t» «n_s») (now (counts .entry)) (lists (now (pents .entry)) (now (edges .entry)) (now (triangles .entry)) (now (tets .entry))
+        (now («tri_to_pents_items» .entry)) (now («tri_to_pents_starts» .entry)) (now («edge_to_tris_items» .entry)) (now («edge_to_tris_starts» .entry))
+        (now («edge_to_pents_items» .entry)) (now («edge_to_pents_starts» .entry)))
+        (lengthsOf (latticeOf «n_t» «n_s») spacing dt (edgesIn (countsOfList (now (counts .entry))) (now (edges .entry)))) (now («sq_lengths» .entry)) r (now («sq_lengths» .exit)) ⌝ }
+{
+    let outcome = flat_minkowski_sq_lengths(
+        lattice_of(n_t, n_s),
+        counts_of(*counts),
+        pents,
+        edges,
+        triangles,
+        tets,
+        tri_to_pents_items,
+        tri_to_pents_starts,
+        edge_to_tris_items,
+        edge_to_tris_starts,
+        edge_to_pents_items,
+        edge_to_pents_starts,
+        spacing,
+        dt,
+        sq_lengths,
+    );
+    outcome.number()
+}
+
+// Two sizes as a lattice.
+fn lattice_of(n_t: usize, n_s: usize) -> Lattice
+    ensures { λ r. ⌜ r ≡ latticeOf «n_t» «n_s» ⌝ }
+{
+    Lattice { n_t: n_t, n_s: n_s }
 }
 
 // Five numbers as counts.

@@ -3,8 +3,8 @@ use mathlib.Core.Path.{_≡_, refl, sym, ap, _∙_, subst}
 use mathlib.Core.Logic.{_⊎_, inl, inr, ⊎-elim}
 use mathlib.Core.Bool.{Bool, true, false, cond}
 use mathlib.Core.List.{List, [], _∷_, _++_, map, map-append, reverse, reverseAux, append-assoc, append-nil, List·Memᴰ, List·Memᴰ·head, List·Memᴰ·tail, List·Memᴰ·cases-cons, List·Memᴰ·append-cases, List·Memᴰ·eq-of-singleton, List·Memᴰ·not-nil, Memᴰ·append-left, Memᴰ·append-right, Memᴰ·of-map, Memᴰ·cast}
-use Prim.Native.Nat.{ℕ, zero, suc, _+_, _*_, _≤_, _<_, suc-le-suc}
-use native.Mathlib.Nat.{le-of-suc-le-suc, not-suc-le-zero, zero-lt-suc, mul-zero, mul-suc}
+use Prim.Native.Nat.{ℕ, zero, suc, _+_, _*_, _/_, _%_, _≤_, _<_, suc-le-suc}
+use native.Mathlib.Nat.{le-of-suc-le-suc, not-suc-le-zero, zero-lt-suc, add-zero, add-suc, mul-zero, mul-suc, mod-eq-of-lt, div-eq-of-lt, mul-add-div, mul-add-mod-self-left}
 use native.Mathlib.Omega.{arith}
 use lib.ListN.{length, getD, length-append, length-map, List·getD-append}
 use lib.Seq.{getD-append-seam, getD-append-add, ext-getD}
@@ -102,6 +102,22 @@ module _ {A : Type 0} where
     map-gather g f [] = refl
     map-gather {C} g f (x ∷ xs) = map-append g (f x) (gather f xs) ∙ ap (λ (r : List C). map g (f x) ++ r) (map-gather g f xs)
 
+    pub gather-map : {C : Type 0} (f : B → List C) (g : A → B) (xs : List A) → gather f (map g xs) ≡ gather (λ x. f (g x)) xs
+    unfolding gather
+    gather-map f g [] = refl
+    gather-map {C} f g (x ∷ xs) = ap (λ (r : List C). f (g x) ++ r) (gather-map f g xs)
+
+    -- one element for each is a map
+    pub gather-one : (f : A → B) (xs : List A) → gather (λ x. f x ∷ []) xs ≡ map f xs
+    unfolding gather
+    gather-one f [] = refl
+    gather-one f (x ∷ xs) = ap (λ (r : List B). f x ∷ r) (gather-one f xs)
+
+    pub gather-same : (f g : A → List B) (xs : List A) → ((a : A) → List·Memᴰ a xs → f a ≡ g a) → gather f xs ≡ gather g xs
+    unfolding gather
+    gather-same f g [] h = refl
+    gather-same f g (x ∷ xs) h = rw (h x (List·Memᴰ·head refl), gather-same f g xs (λ y m. h y (List·Memᴰ·tail m))) refl
+
     pub getD-map : (f : A → B) (xs : List A) (i : ℕ) (d : A) (e : B) → i < length xs → getD (map f xs) i e ≡ f (getD xs i d)
     getD-map f [] i d e h = absurd (not-suc-le-zero h)
     getD-map f (x ∷ xs) zero d e h = refl
@@ -121,6 +137,12 @@ module _ {A : Type 0} where
     pub map-same : (f g : A → B) (xs : List A) → ((a : A) → List·Memᴰ a xs → f a ≡ g a) → map f xs ≡ map g xs
     map-same f g [] h = refl
     map-same f g (x ∷ xs) h = λ i. h x (List·Memᴰ·head refl) i ∷ map-same f g xs (λ a m. h a (List·Memᴰ·tail m)) i
+
+-- two maps that make the same list take each element to the same
+pub map-at : {A B : Type 0} (f g : A → B) (d : A) (xs : List A) {a : A} → map f xs ≡ map g xs → List·Memᴰ a xs → f a ≡ g a
+map-at {A} {B} f g d xs e m =
+    let w = mem-getD d m in
+    ap f (sym (w .2)) ∙ sym (getD-map f xs (w .0) d (f d) (w .1)) ∙ ap (λ (ys : List B). getD ys (w .0) (f d)) e ∙ getD-map g xs (w .0) d (f d) (w .1) ∙ ap g (w .2)
 
 -- ---- `upto`
 
@@ -155,6 +177,12 @@ getD-upto (suc n) i d h = go (ltb-says i n) (getD-upto n i d)
         let e : i ≡ n = omega arith in
         ap (λ (k : ℕ). getD (upto n ++ n ∷ []) k d) (e ∙ sym (length-upto n)) ∙ getD-append-seam (upto n) n [] d ∙ sym e
 
+pub upto-add : (n m : ℕ) → upto (n + m) ≡ upto n ++ map (λ i. n + i) (upto m)
+unfolding upto
+upto-add n zero = rw add-zero (sym (append-nil (upto n)))
+upto-add n (suc m) =
+    rw (add-suc n m, upto-add n m, map-append (λ i. n + i) (upto m) (m ∷ []), append-assoc (upto n) (map (λ i. n + i) (upto m)) ((n + m) ∷ [])) refl
+
 -- a table of a rule: its entries
 pub getD-table : {B : Type 0} (f : ℕ → B) (n i : ℕ) (d : B) → i < n → getD (map f (upto n)) i d ≡ f i
 getD-table f n i d h = getD-map f (upto n) i zero d (rw length-upto h) ∙ ap f (getD-upto n i zero h)
@@ -167,6 +195,31 @@ map-upto f xs d e =
     (λ i h.
     let l : i < length xs = rw (length-map xs f) at h in
     getD-map f xs i d e l ∙ sym (getD-table (λ i. f (getD xs i d)) (length xs) i e l))
+
+-- ---- loops in loops
+
+-- two loops, one in the other, are one loop
+pub gather-loops : {A : Type 0} (g : ℕ → ℕ → List A) (n m : ℕ) → 0 < n → gather (λ j. gather (λ i. g i j) (upto n)) (upto m) ≡ gather (λ k. g (k % n) (k / n)) (upto (n * m))
+unfolding upto gather
+gather-loops g n zero h = rw mul-zero refl
+gather-loops {A} g n (suc m) h =
+    let turn : (i : ℕ) → List·Memᴰ i (upto n) → g i m ≡ g ((n * m + i) % n) ((n * m + i) / n) =
+    λ i k.
+    let l : i < n = mem-upto n i k in
+    let r : (n * m + i) % n ≡ i = mul-add-mod-self-left n m i ∙ mod-eq-of-lt l in
+    let q : (n * m + i) / n ≡ m = mul-add-div h m i ∙ ap (λ (z : ℕ). m + z) (div-eq-of-lt l) ∙ add-zero m in
+    rw (r, q) refl in
+    gather-snoc (λ j. gather (λ i. g i j) (upto n)) (upto m) m
+    ∙ ap (λ (xs : List A). xs ++ gather (λ i. g i m) (upto n)) (gather-loops g n m h)
+    ∙ ap (λ (xs : List A). gather (λ k. g (k % n) (k / n)) (upto (n * m)) ++ xs) (gather-same (λ i. g i m) (λ i. g ((n * m + i) % n) ((n * m + i) / n)) (upto n) turn ∙ sym (gather-map (λ k. g (k % n) (k / n)) (λ i. n * m + i) (upto n)))
+    ∙ sym (gather-append (λ k. g (k % n) (k / n)) (upto (n * m)) (map (λ i. n * m + i) (upto n)))
+    ∙ ap (gather (λ k. g (k % n) (k / n))) (sym (upto-add (n * m) n) ∙ ap upto (sym (mul-suc n m)))
+
+-- the same, with one element a turn
+pub map-loops : {A : Type 0} (f : ℕ → ℕ → A) (n m : ℕ) → 0 < n → gather (λ j. map (λ i. f i j) (upto n)) (upto m) ≡ map (λ k. f (k % n) (k / n)) (upto (n * m))
+map-loops f n m h =
+    gather-same (λ j. map (λ i. f i j) (upto n)) (λ j. gather (λ i. f i j ∷ []) (upto n)) (upto m) (λ j k. sym (gather-one (λ i. f i j) (upto n)))
+    ∙ gather-loops (λ i j. f i j ∷ []) n m h ∙ gather-one (λ k. f (k % n) (k / n)) (upto (n * m))
 
 -- ---- `among` and `within`
 

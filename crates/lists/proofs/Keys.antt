@@ -6,11 +6,13 @@ use mathlib.Core.List.{List, [], _∷_, _++_, map, foldl, List·Memᴰ, List·Me
 use Prim.Native.Nat.{ℕ, zero, suc, _+_, _≤_, _<_, suc-le-suc}
 use native.Mathlib.Nat.{le-of-suc-le-suc, not-suc-le-zero, zero-lt-suc}
 use native.Mathlib.Omega.{arith}
-use lib.ListN.{length, getD, length-append, List·getD-append}
+use lib.ListN.{length, getD, take, length-append, List·getD-append}
 use lib.Seq.{getD-append-seam}
 use Rattle.lists.specs.Keys.{eqs, find, meet, firsts, Distinct}
-use Rattle.lists.proofs.Tests.{Says, pass, fail, eqb-says, ltb-says, and-says, lt-or-ge}
+use Rattle.lists.specs.Rows.{begins}
+use Rattle.lists.proofs.Tests.{Says, pass, fail, eqb-says, ltb-says, and-says, lt-or-ge, says-same}
 use Rattle.lists.proofs.Elements.{getD-mem, map-same}
+use Rattle.lists.proofs.Rows.{begins-says}
 
 -- ---- `find`
 
@@ -20,6 +22,10 @@ eqs-says [] [] = pass refl
 eqs-says [] (y ∷ ys) = fail (λ e. let z : _≡_ {A = ℕ} 0 1 = cc in omega arith)
 eqs-says (x ∷ xs) [] = fail (λ e. let z : _≡_ {A = ℕ} 0 1 = cc in omega arith)
 eqs-says (x ∷ xs) (y ∷ ys) = and-says (λ p q. cc) (λ e. cc) (λ e. cc) (eqb-says x y) (eqs-says xs ys)
+
+-- a row at the front of a list begins it
+pub eqs-begins : (new xs : List ℕ) → eqs new (take (length new) xs) ≡ begins new xs
+eqs-begins new xs = says-same sym sym (eqs-says new (take (length new) xs)) (begins-says new xs)
 
 pub find-le : (x : List ℕ) (ys : List (List ℕ)) → find x ys ≤ length ys
 unfolding find

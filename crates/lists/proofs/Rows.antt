@@ -7,12 +7,12 @@ use Prim.Native.Nat.{ℕ, zero, suc, _+_, _*_, _-_, _≤_, _<_}
 use native.Mathlib.Nat.{le-of-suc-le-suc, not-suc-le-zero, add-zero, mul-suc, mul-zero, mul-le-mul-left}
 use native.Mathlib.Omega.{arith}
 use native.Mathlib.Numerals.{add-one}
-use lib.ListN.{length, getD, take, drop, length-append, length-drop, take-append-drop}
-use lib.Seq.{drop-drop, getD-take, take-take, take-suc, take-add, take-at, drop-at, length-take-le, take-all, take-length, slice, take-append-add, take-append-seam, drop-append-seam}
+use lib.ListN.{length, getD, take, drop, set, length-append, length-drop, length-map, take-append-drop}
+use lib.Seq.{drop-drop, getD-take, getD-drop, set-split, take-take, take-suc, take-add, take-at, drop-at, length-take-le, take-all, take-length, slice, take-append-add, take-append-seam, drop-append-seam}
 use Rattle.lists.specs.Lists.{gather, upto}
 use Rattle.lists.specs.Rows.{flat, rows, Wide, startsFrom, starts, over, begins}
 use Rattle.lists.proofs.Tests.{Says, pass, fail, eqb-says, and-says, passes}
-use Rattle.lists.proofs.Elements.{Sub}
+use Rattle.lists.proofs.Elements.{map-same, map-upto, length-upto, mem-upto, Sub}
 
 -- ---- `rows`
 
@@ -195,9 +195,43 @@ unfolding over
 over-take new old n e = take-at new (drop (length new) old) n e
 
 -- a list whose beginning and whose rest are known
-pub over-of : (new old xs : List ℕ) (n : ℕ) → take n xs ≡ new → length new ≡ n → drop n xs ≡ drop n old → xs ≡ over new old
+pub over-of : {A : Type 0} (new old xs : List A) (n : ℕ) → take n xs ≡ new → length new ≡ n → drop n xs ≡ drop n old → xs ≡ over new old
 unfolding over
 over-of new old xs n a l b = sym (take-append-drop n xs) ∙ rw (l, a, b) refl
+
+-- a turn of a loop that writes a list from its front: its places from n to m get a part
+pub over-turn : {A : Type 0} (front part old out out′ : List A) (n m : ℕ) → length front ≡ n → n ≤ m → out ≡ front ++ drop n old → out′ ≡ take n out ++ part ++ drop m out → out′ ≡ front ++ part ++ drop m old
+over-turn {A} front part old out out′ n m l h i e =
+    let z : n + (m - n) ≡ m = omega arith in
+    let a : take n out ≡ front = ap (take n) i ∙ take-at front (drop n old) n l in
+    let b : drop n out ≡ drop n old = ap (drop n) i ∙ drop-at front (drop n old) n l in
+    let d : drop m out ≡ drop m old =
+    ap (λ (k : ℕ). drop k out) (sym z) ∙ sym (drop-drop (m - n) n out) ∙ ap (drop (m - n)) b ∙ drop-drop (m - n) n old ∙ ap (λ (k : ℕ). drop k old) z in
+    e ∙ ap (λ (xs : List A). xs ++ part ++ drop m out) a ∙ ap (λ (xs : List A). front ++ part ++ xs) d
+
+-- a turn that writes one place of a table
+pub table-turn : {A : Type 0} (f : ℕ → A) (old out : List A) (k : ℕ) → k < length old → length out ≡ length old → out ≡ map f (upto k) ++ drop k old → set out k (f k) ≡ map f (upto (suc k)) ++ drop (suc k) old
+unfolding upto
+table-turn {A} f old out k h l i =
+    over-turn (map f (upto k)) (f k ∷ []) old out (set out k (f k)) k (suc k) (length-map (upto k) f ∙ length-upto k) (omega arith) i (set-split out k (f k) (omega arith) ∙ sym (append-assoc (take k out) (f k ∷ []) (drop (suc k) out)))
+    ∙ ap (λ (xs : List A). xs ++ drop (suc k) old) (sym (map-append f (upto k) (k ∷ [])))
+
+-- after the last turn
+pub table-done : {A : Type 0} (f : ℕ → A) (old out : List A) (n : ℕ) → out ≡ map f (upto n) ++ drop n old → out ≡ over (map f (upto n)) old
+unfolding over
+table-done f old out n e = e ∙ rw (length-map (upto n) f ∙ length-upto n) refl
+
+-- a rule for rows of two numbers, by their places
+pub map-pairs : {A : Type 0} (h : ℕ → ℕ → A) (n : ℕ) (xs : List ℕ) → map (λ e. h (getD e 0 0) (getD e 1 0)) (rows 2 n xs) ≡ map (λ k. h (getD xs (2 * k) 0) (getD xs (2 * k + 1) 0)) (upto n)
+map-pairs {A} h n xs =
+    map-upto (λ e. h (getD e 0 0) (getD e 1 0)) (rows 2 n xs) [] (h 0 0)
+    ∙ ap (λ (m : ℕ). map (λ k. h (getD (getD (rows 2 n xs) k []) 0 0) (getD (getD (rows 2 n xs) k []) 1 0)) (upto m)) (length-rows 2 n xs)
+    ∙ map-same _ _ (upto n) (λ k m. rw (rows-at 2 n xs k (mem-upto n k m)) (place k))
+  where
+    place : (k : ℕ) → h (getD (take 2 (drop (2 * k) xs)) 0 0) (getD (take 2 (drop (2 * k) xs)) 1 0) ≡ h (getD xs (2 * k) 0) (getD xs (2 * k + 1) 0)
+    place k =
+        rw (getD-take 2 (drop (2 * k) xs) 0 0 (omega arith), getD-take 2 (drop (2 * k) xs) 1 0 (omega arith), getD-drop (2 * k) xs 0 0, getD-drop (2 * k) xs 1 0, add-zero (2 * k))
+        refl
 
 -- ---- `begins`
 

@@ -56,6 +56,9 @@ and-says f g h (pass p) (pass q) = pass (f p q)
 and-says f g h (pass p) (fail n) = fail (λ r. n (h r))
 and-says f g h (fail n) q = fail (λ r. n (g r))
 
+pub both-says : {P Q : Type 0} {a b : Bool} → Says P a → Says Q b → Says (P × Q) (a && b)
+both-says x y = and-says (λ p q. (p, q)) (λ h. h .0) (λ h. h .1) x y
+
 pub or-says : {P Q R : Type 0} {a b : Bool} → (P → R) → (Q → R) → (R → P ⊎ Q) → Says P a → Says Q b → Says R (a || b)
 or-says f g h (pass p) q = pass (f p)
 or-says f g h (fail n) (pass q) = pass (g q)

@@ -30,7 +30,7 @@ abbrev pub starts : List (List ℕ) → List ℕ
 starts xs = startsFrom 0 xs
 
 -- a lent list with new content written over its beginning; what follows is kept
-unfoldable pub over : List ℕ → List ℕ → List ℕ
+unfoldable pub over : {A : Type 0} → List A → List A → List A
 over new old = new ++ drop (length new) old
 
 -- a list has `new` at its beginning

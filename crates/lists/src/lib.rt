@@ -9,3 +9,4 @@ pub use matching::Match;
 pub use matching::match_rows;
 pub use numbering::copy_row;
 pub use numbering::meet_rows;
+pub use numbering::same_row;

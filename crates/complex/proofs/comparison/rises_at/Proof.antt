@@ -4,7 +4,7 @@ use mathlib.Core.Path.{refl}
 use native.Mathlib.Omega.{arith}
 use borrow.Author.Needs.{needs}
 use Rattle.complex.specs.CheckParts.{rises}
-use Rattle.complex.proofs.Sorted.{take-five}
+use Rattle.complex.proofs.SortedPents.{take-five}
 use Rattle.complex.proofs.comparison.rises_at.Statement.{statement}
 use Rattle.complex.proofs.comparison.rises_at.Tie as tie
 

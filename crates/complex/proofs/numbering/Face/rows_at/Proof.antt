@@ -1,7 +1,7 @@
 -- `complex::numbering::Face::rows_at` meets its contract. Assumes nothing.
 use Prim.Native.Nat.{_-_}
 use borrow.Author.Needs.{needs}
-use Rattle.complex.proofs.Sorted.{take-five}
+use Rattle.complex.proofs.SortedPents.{take-five}
 use Rattle.complex.proofs.numbering.Face.rows_at.Statement.{statement}
 use Rattle.complex.proofs.numbering.Face.rows_at.Tie as tie
 

@@ -1,0 +1,9 @@
+-- Laws on lattices, for proofs here and in the crates above.
+pub mod Sizes
+pub mod Coordinates
+pub mod Cells
+pub mod Images
+pub mod Listings
+pub mod Orders
+pub mod Passed
+pub mod Accepted

@@ -1,0 +1,6 @@
+-- The definitions that contracts on lattices cite.
+pub mod Lattice
+pub mod Listing
+pub mod Edges
+pub mod OnLattice
+pub mod Parts
