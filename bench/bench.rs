@@ -1,5 +1,8 @@
-//! Times our from_pentachorons beside the Rust's on the same inputs and our check_built beside the Rust's deficits or, with the argument `stack`, measures the stack of our calls.
+//! Times our from_pentachorons and lattices beside the Rust's on the same inputs and our check_built beside the Rust's deficits or, with the argument `stack`, measures the stack of our calls.
 mod check;
+mod lattices;
+#[path = "../oracle/foliation/library.rs"]
+mod library;
 #[path = "../oracle/complex/ours.rs"]
 mod ours;
 mod stack;
@@ -76,6 +79,12 @@ fn print_times(name: &str, ours: Vec<f64>, rust: Vec<f64>) {
     );
 }
 
+/// A line with our times alone.
+fn print_alone(name: &str, ours: Vec<f64>) {
+    let (ours, ours_least) = summary(ours);
+    println!("{name:<28}{ours:>10.2}{ours_least:>10.2}");
+}
+
 /// Times both on an input in turn and prints a line; the Rust's conversion to usize and the release of its complex aren't timed.
 fn compare(name: &str, complex: Complex) {
     let (n_vertices, pents) = (complex.0, as_rust(&complex.1));
@@ -108,6 +117,7 @@ fn main() -> ExitCode {
         [] => {
             times();
             check::times();
+            lattices::times();
         }
         ["stack"] => stack::measure(),
         _ => {

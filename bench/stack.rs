@@ -1,7 +1,9 @@
 //! How deep the stack of our call is: the stack below it is painted, and the paint that is gone afterwards is measured. For x86-64.
+use crate::lattices::{self, Edges, Listing, SIZE};
 use crate::{Prepared, check, random};
 use calls::Complex;
 use calls::complexes::MOST_PENTS;
+use calls::lattice::lattice;
 use std::arch::asm;
 use std::ptr::{with_exposed_provenance, with_exposed_provenance_mut};
 use std::thread::Builder;
@@ -54,6 +56,34 @@ fn measure_check(name: &str, complex: &Complex, damage: fn(&mut check::Prepared)
     measure_one(&format!("check_built, {name}"), move || prepared.make());
 }
 
+/// Measures a call of foliated_hypercubic, changed by a function.
+fn measure_listing(name: &str, change: fn(&mut Listing)) {
+    let mut listing = Listing::new();
+    change(&mut listing);
+    measure_one(&format!("foliated_hypercubic, {name}"), move || listing.make());
+}
+
+/// Measures a call of edge_types and one of flat_minkowski_sq_lengths, their lists changed by a function.
+fn measure_edges(name: &str, damage: fn(&mut Edges)) {
+    let built = lattices::built(&Prepared::new(lattice(SIZE.0, SIZE.1)).call);
+    for (function, call) in [("edge_types", Edges::types as fn(&mut Edges) -> u32), ("flat lengths", Edges::lengths)] {
+        let mut edges = Edges::new(&built);
+        damage(&mut edges);
+        measure_one(&format!("{function}, {name}"), move || call(&mut edges));
+    }
+}
+
+/// Measures the calls on a lattice, answered ones and refused ones.
+fn measure_lattices() {
+    measure_listing("lattice 5, 4", |_| ());
+    measure_listing("lattice 6, 4", |listing| listing.size = (6, 4));
+    measure_listing("lattice 5, 4, the list short", |listing| listing.pents.truncate(5));
+    measure_edges("lattice 5, 4", |_| ());
+    measure_edges("lattice 6, 4", |edges| edges.size = (6, 4));
+    measure_edges("lattice 5, 4, another's size", |edges| edges.size = (4, 4));
+    measure_edges("lattice 5, 4, the last start wrong", |edges| *edges.check.lists[9].last_mut().unwrap() += 1);
+}
+
 /// Measures answered calls, refused ones and one without pentachorons.
 pub fn measure() {
     let (n_vertices, mut outside) = random(4_096);
@@ -70,4 +100,5 @@ pub fn measure() {
     measure_check("8192 pents, an output short", &complex, |call| call.outputs[1].truncate(10 * MOST_PENTS - 1));
     measure_check("8192 pents, no vertices", &complex, |call| call.check.counts[0] = 0);
     measure_check("no pents", &(4_096, vec![]), |_| ());
+    measure_lattices();
 }

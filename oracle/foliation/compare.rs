@@ -1,4 +1,5 @@
 //! Compares our library's lattices, edge types and flat lengths with the Rust's in 01's order and its refusals with their table.
+mod compare_built;
 mod compare_edges;
 mod compare_lists;
 #[path = "../complex/differences.rs"]

@@ -1,11 +1,8 @@
-//! Compares our library's foliated_hypercubic with the altered Rust's pentachorons and its refusals with their table, and what is built of them with what the Rust builds.
+//! Compares our library's foliated_hypercubic with the altered Rust's pentachorons and its refusals with their table.
 use crate::lent::Lent;
 use crate::tally::{Tally, of_numbers};
-use crate::{differences, guarded, library};
-use calls::checks::{self, Check};
-use calls::expected as builder;
+use crate::{compare_built, differences, library};
 use calls::random::Random;
-use calls::{Call, LISTS, rooms};
 use lattices::expected::{self, Lattices, Listed};
 use lattices::sizes::{self, Size};
 
@@ -13,17 +10,13 @@ use lattices::sizes::{self, Size};
 const GUARD: u32 = 0x5a5a_a5a5;
 const COUNT: usize = 0x00c0_ffee_0000;
 
-/// The counts of 01-scope.md: vertices, pentachorons, edges, triangles, tets; 0 where it has none.
-const COUNTED: [(Size, [usize; 5]); 3] =
-    [((2, 2), [16, 192, 0, 0, 0]), ((3, 2), [24, 576, 0, 0, 0]), ((3, 3), [81, 1_944, 1_215, 4_050, 4_860])];
-
 /// What a list holds before a call.
-fn before(room: usize) -> Vec<u32> {
+pub fn before(room: usize) -> Vec<u32> {
     (0..room as u32).map(|place| (place + 1).wrapping_mul(0x9e37_79b9)).collect()
 }
 
 /// Makes the call; what it leaves, and what it did to memory that it wasn't lent to write to.
-fn listed(size: Size, before: &[u32]) -> (Listed, Vec<String>) {
+pub fn listed(size: Size, before: &[u32]) -> (Listed, Vec<String>) {
     let mut pents = Lent::new(before, GUARD);
     let mut count = Lent::new(&[COUNT], GUARD as usize);
     let number = unsafe { library::foliated_hypercubic(size, (pents.start(), before.len()), count.start()) };
@@ -78,59 +71,8 @@ impl Lists<'_> {
         }
     }
 
-    /// What our builder makes of our pentachorons, beside the lists of the altered Rust's complex; and our check of it.
-    fn built(&mut self) {
-        for (size, lattice) in &self.lattices.0 {
-            let (mut ours, _) = listed(*size, &before(sizes::room(*size).unwrap()));
-            ours.pents.truncate(5 * ours.count.min(ours.pents.len() / 5));
-            let call =
-                Call { n_vertices: lattice.complex.n_vertices, lengths: rooms(ours.pents.len()), pents: ours.pents };
-            let before = builder::Lent { lists: call.lengths.map(before), counts: [0; 5] };
-            let (ours, mut found) = guarded::answer(&call, &before);
-            let expected = builder::lists(&lattice.complex);
-            found.extend(of_numbers("number", ours.number as usize, 0));
-            for ((list, ours), expected) in LISTS.iter().zip(&ours.lent.lists).zip(&expected) {
-                let same = ours.len() >= expected.len();
-                found.extend((!same).then(|| format!("{}: too few places", list.name)));
-                found.extend(
-                    same.then(|| differences::of_lists(list.name, &ours[..expected.len()], expected)).flatten(),
-                );
-            }
-            let counts = builder::counts(&lattice.complex);
-            found.extend(
-                (ours.lent.counts != counts)
-                    .then(|| format!("counts: ours {:?}, expected {counts:?}", ours.lent.counts)),
-            );
-            found.extend(self.checked(&Check::new(&lattice.complex)));
-            self.tally.add("list, builder and check", 0, || format!("lattice {size:?}"), &found);
-        }
-    }
-
-    /// How our check of a complex differs.
-    fn checked(&self, check: &Check) -> Vec<String> {
-        let outputs = check.outputs.map(before);
-        let (ours, mut found) = guarded::checked(check, &outputs);
-        if ours != checks::answer(check, outputs) {
-            found.push("check_built differs".to_string());
-        }
-        found
-    }
-
-    /// The counts that 01-scope.md has.
-    fn counted(&mut self) {
-        for (size, counted) in COUNTED {
-            let (ours, _) = listed(size, &before(sizes::room(size).unwrap()));
-            let counts = builder::counts(&self.lattices.get(size).unwrap().complex);
-            let mut found = Vec::from_iter(of_numbers("pentachorons", ours.count, counted[1]));
-            found.extend(
-                counts
-                    .iter()
-                    .zip(&counted)
-                    .filter(|(_, counted)| **counted != 0)
-                    .filter_map(|(ours, counted)| of_numbers("a count", *ours, *counted)),
-            );
-            self.tally.add("the counts of 01", 0, || format!("lattice {size:?}"), &found);
-        }
+    /// The sizes that 01-scope.md names.
+    fn named(&mut self) {
         self.call("the sizes of 01", (5, 4), 120 * 320);
         self.call("the sizes of 01", (6, 4), 120 * 384);
         self.call("the sizes of 01", (1, 3), 120 * 27);
@@ -138,10 +80,10 @@ impl Lists<'_> {
 
     /// Compares everything.
     pub fn compare(&mut self) {
-        self.counted();
+        self.named();
         self.lawful();
         self.unlawful();
-        self.built();
+        compare_built::compare(self.lattices, &mut self.tally);
         self.tally.print("foliated_hypercubic");
     }
 }

@@ -1,7 +1,6 @@
 //! The altered Rust's answers and the table's refusals on a small sample, as the input and the output of a replay.
 use calls::checks::Check;
 use calls::random::Random;
-use calls::rooms;
 use lattices::expected::{self, Lattices};
 use lattices::sizes::{self, Size};
 use lattices::units::{self, Units};
@@ -12,9 +11,9 @@ use std::process::ExitCode;
 /// How many bytes the replay reads at most.
 const READ: usize = 65_536;
 
-/// How many pentachorons the lists of the replay have room for: those of 81 cells.
+/// The most cells of a lattice that the replay builds, and the length of its lists: the longest room.
 const MOST_CELLS: usize = 81;
-const MOST_PENTS: usize = 24 * MOST_CELLS;
+const LENGTH: usize = 30 * 24 * MOST_CELLS;
 
 /// Up to how many places a list, or an output, is printed whole.
 const WHOLE_LIST: usize = 2_000;
@@ -105,14 +104,12 @@ fn listing_lines(lattices: &Lattices, size: Size, room: usize) -> String {
     format!("listed {} {}\n{list}", listed.number, listed.count)
 }
 
-/// What is built in lists of the replay's rooms, and then changed.
+/// What is built in lists of that length, and then changed.
 fn check(lattices: &Lattices, asked: &Asked) -> Check {
     let pents = &lattices.get(asked.built).unwrap().complex.pents;
     let mut check = Check::new(&SimplicialComplex::from_pentachorons(asked.n_vertices, pents));
-    for (list, room) in rooms(5 * MOST_PENTS).into_iter().enumerate() {
-        check.lists[list].resize(room, 0);
-        check.lengths[list] = room;
-    }
+    check.lists.iter_mut().for_each(|list| list.resize(LENGTH, 0));
+    check.lengths = [LENGTH; 10];
     let Change { list, place, number } = asked.change;
     match list {
         0..10 => check.lists[list][place] = number,
@@ -129,7 +126,7 @@ fn edges_lines(lattices: &Lattices, asked: &Asked) -> String {
     let (number, types) = expected::filled(over, expected::types, types);
     let types: Vec<u64> = types.into_iter().map(u64::from).collect();
     let mut lines = list_line(&format!("types {number}"), WHOLE_OUTPUT, 1, &types, |byte| byte.to_string());
-    let lengths = before(asked.room).into_iter().map(|number| f64::from(number).to_bits()).collect();
+    let lengths = before(asked.room).into_iter().map(u64::from).collect();
     let (number, lengths) = expected::filled(over, |lattice| expected::lengths(lattice, asked.units), lengths);
     let text = |bits: u64| if f64::from_bits(bits).is_nan() { "nan".to_string() } else { format!("{bits:016x}") };
     lines += &list_line(&format!("lengths {number}"), WHOLE_OUTPUT, 2, &lengths, text);

@@ -1,7 +1,8 @@
 -- The shortest step along a periodic axis: its double, and when it is 0. Assumes nothing.
-use Prim.Native.Nat.{ℕ, suc, _+_, _-_, _/_, _^_, _≤_, _<_}
+use Prim.Native.Nat.{ℕ, suc, _+_, _-_, _/_, _%_, _^_, _≤_, _<_}
 use mathlib.Core.Path.{_≡_, refl, sym, ap, _∙_}
-use mathlib.Core.Bool.{Bool, cond}
+use mathlib.Core.Bool.{Bool, true, cond}
+use native.Mathlib.Nat.{mod-lt}
 use native.Mathlib.Omega.{arith}
 use lib.Dec.{T, eqb, le→leb}
 use lib.IntN.{pos, negsuc, subℕ}
@@ -9,7 +10,10 @@ use lib.Ieee.{binary64, neg, ofInt, inFloat}
 use borrow.Author.Tests.{lt-ltb, le-ltb}
 use Rattle.floats.proofs.Integers.{neg-ofInt}
 use Rattle.lists.proofs.Tests.{Says, pass, fail, eqb-says, ltb-says, says-by, said, passes}
+use Rattle.foliation.specs.declared.Lattice.{Lattice}
+use Rattle.foliation.specs.Lattice.{isLawful}
 use Rattle.foliation.specs.Edges.{minImage, isZero}
+use Rattle.foliation.proofs.Sizes.{lawful}
 
 -- ---- differences as doubles
 
@@ -35,7 +39,7 @@ down-double a b h =
 -- ---- no step
 
 -- the step is 0 between equal points alone
-pub zero-says : (a b n : ℕ) → a < n → b < n → Says (a ≡ b) (isZero (minImage a b n))
+zero-says : (a b n : ℕ) → a < n → b < n → Says (a ≡ b) (isZero (minImage a b n))
 unfolding minImage
 zero-says a b n ha hb = go (ltb-says (a + n / 2) b) (ltb-says (b + n / 2) a)
   where
@@ -49,3 +53,7 @@ zero-says a b n ha hb = go (ltb-says (a + n / 2) b) (ltb-says (b + n / 2) a)
         rw (sub-up a (b + n) (omega arith))
         (says-by (eqb (b + n - a) 0) (λ t. let z : b + n - a ≡ 0 = said (eqb-says (b + n - a) 0) t in omega arith) (λ e. let f : ⊥ = omega arith in absurd f))
     go (fail f) (fail g) = plain (ltb-says b a)
+
+-- the type's test of two vertices
+pub time-says : (l : Lattice) → isLawful l ≡ true → (a b : ℕ) → Says (a % l .«n_t» ≡ b % l .«n_t») (isZero (minImage (a % l .«n_t») (b % l .«n_t») (l .«n_t»)))
+time-says l h a b = let s : 0 < l .«n_t» = omega (arith, lawful l h .t-least) in zero-says (a % l .«n_t») (b % l .«n_t») (l .«n_t») (mod-lt a s) (mod-lt b s)

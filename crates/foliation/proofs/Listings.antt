@@ -60,22 +60,6 @@ module _ (l : Lattice) (ok : Lawful l) where
   paths-wide : Wide 5 (paths l)
   paths-wide = rw (paths-numbered l ok) (to-wide l (24 * vertexCount l))
 
-  pub pents-wide : Wide 5 (latticePents l)
-  unfolding latticePents
-  pents-wide p m = paths-wide p (firsts-only (paths l) m)
-
-  -- there are at most 24 a cell
-  pub pents-few : length (latticePents l) ≤ 24 * vertexCount l
-  unfolding latticePents
-  pents-few = omega (arith, firsts-room (paths l), length-paths)
-
-  pub length-flat-pents : length (flat (latticePents l)) ≡ 5 * length (latticePents l)
-  length-flat-pents = length-flat 5 (latticePents l) pents-wide
-
-  -- what is written is read back
-  pub pents-front : (old own : List ℕ) (r : ℕ) → r ≡ length (latticePents l) → own ≡ over (flat (latticePents l)) old → take (5 * r) own ≡ flat (latticePents l)
-  pents-front old own r n e = ap (take (5 * r)) e ∙ over-take (flat (latticePents l)) old (5 * r) (omega (arith, length-flat-pents))
-
   -- written flat, the pentachorons of all cells are read back
   pub paths-back : (given old : List ℕ) → given ≡ over (flat (paths l)) old → rows 5 (24 * vertexCount l) given ≡ paths l
   unfolding over
@@ -106,3 +90,23 @@ module _ (l : Lattice) (ok : Lawful l) where
   unfolding latticePents
   met-pents e e′ h x u u′ r met same room =
       (met-count 5 e e′ h x u u′ (paths l) r met, met-rows 5 e e′ h x u u′ (paths l) r met (omega (arith, met .to, length-paths)))
+
+  -- ---- the list
+
+  -- each has five vertices
+  pub pents-wide : Wide 5 (latticePents l)
+  unfolding latticePents
+  pents-wide p m = paths-wide p (firsts-only (paths l) m)
+
+  -- there are at most 24 a cell
+  pub pents-few : length (latticePents l) ≤ 24 * vertexCount l
+  unfolding latticePents
+  pents-few = omega (arith, firsts-room (paths l), length-paths)
+
+  -- written flat, they are five numbers each
+  pub length-flat-pents : length (flat (latticePents l)) ≡ 5 * length (latticePents l)
+  length-flat-pents = length-flat 5 (latticePents l) pents-wide
+
+  -- what is written is read back
+  pub pents-front : (old own : List ℕ) (r : ℕ) → r ≡ length (latticePents l) → own ≡ over (flat (latticePents l)) old → take (5 * r) own ≡ flat (latticePents l)
+  pents-front old own r n e = ap (take (5 * r)) e ∙ over-take (flat (latticePents l)) old (5 * r) (omega (arith, length-flat-pents))

@@ -25,7 +25,7 @@ lawful-says l =
     (both-says (both-says (both-says (leb-says 2 (l .«n_t»)) (leb-says (l .«n_t») 8)) (leb-says 2 (l .«n_s»))) (leb-says (l .«n_s») 8))
     (leb-says (vertexCount l) 341)
 
--- a lawful lattice is lawful
+-- what the test of a size says where it passes
 pub lawful : (l : Lattice) → isLawful l ≡ true → Lawful l
 lawful l h = said (lawful-says l) h
 
