@@ -20,12 +20,6 @@ impl Lattices {
     }
 }
 
-impl Default for Lattices {
-    fn default() -> Self {
-        Lattices::new()
-    }
-}
-
 /// What a call of foliated_hypercubic leaves: 0 or the refusal's number, the lent list and the count.
 #[derive(PartialEq)]
 pub struct Listed {

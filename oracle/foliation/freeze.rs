@@ -22,7 +22,7 @@ const WHOLE_OUTPUT: usize = 400;
 /// The count before a call of foliated_hypercubic.
 const COUNT: usize = 77;
 
-/// A number put at a place of one of the ten lists or, for 10, of the counts; there is none for 11.
+/// A number put at a place of one of the ten lists that are built, of the counts for 10, of the pentachorons before they are built for 11; 12 is no change.
 #[derive(Clone, Copy)]
 struct Change {
     list: usize,
@@ -30,7 +30,7 @@ struct Change {
     number: u32,
 }
 
-const NONE: Change = Change { list: 11, place: 0, number: 0 };
+const NONE: Change = Change { list: 12, place: 0, number: 0 };
 
 /// A call of edge_types and one of flat_minkowski_sq_lengths: the size that is asked for, the lattice that is built with a vertex count and then changed, and the length of the outputs.
 #[derive(Clone, Copy)]
@@ -104,13 +104,16 @@ fn listing_lines(lattices: &Lattices, size: Size, room: usize) -> String {
     format!("listed {} {}\n{list}", listed.number, listed.count)
 }
 
-/// What is built in lists of that length, and then changed.
+/// What is built in lists of that length, with the change.
 fn check(lattices: &Lattices, asked: &Asked) -> Check {
-    let pents = &lattices.get(asked.built).unwrap().complex.pents;
-    let mut check = Check::new(&SimplicialComplex::from_pentachorons(asked.n_vertices, pents));
+    let Change { list, place, number } = asked.change;
+    let mut pents = lattices.get(asked.built).unwrap().complex.pents.clone();
+    if list == 11 {
+        pents.as_flattened_mut()[place] = number as usize;
+    }
+    let mut check = Check::new(&SimplicialComplex::from_pentachorons(asked.n_vertices, &pents));
     check.lists.iter_mut().for_each(|list| list.resize(LENGTH, 0));
     check.lengths = [LENGTH; 10];
-    let Change { list, place, number } = asked.change;
     match list {
         0..10 => check.lists[list][place] = number,
         10 => check.counts[place] = number as usize,
@@ -206,7 +209,7 @@ fn answered(lattices: &Lattices) -> Vec<Asked> {
     asked
 }
 
-/// Changes to what is built of the smallest lattice: the first number of each list and its last, one past it, each count; the outputs are short in half of them.
+/// Changes to what is built of the smallest lattice: the first number of each list, one in its middle, its last and one past it; each count; a vertex of the first, the middle and the last pentachoron.
 fn changes(lattices: &Lattices) -> Vec<Change> {
     let check = Check::new(&lattices.get((2, 2)).unwrap().complex);
     let mut changes = Vec::new();
@@ -218,10 +221,15 @@ fn changes(lattices: &Lattices) -> Vec<Change> {
     for (place, &count) in check.counts.iter().enumerate() {
         changes.extend([count + 1, count - 1].map(|count| Change { list: 10, place, number: count as u32 }));
     }
+    for pent in [0, check.counts[1] / 2, check.counts[1] - 1] {
+        let vertices = &check.lists[0][5 * pent..5 * pent + 5];
+        let other = (0..16).find(|vertex| !vertices.contains(vertex)).unwrap();
+        changes.push(Change { list: 11, place: 5 * pent + 2, number: other });
+    }
     changes
 }
 
-/// What isn't that lattice's: the changes, another lattice, another vertex count.
+/// What isn't that lattice's: the changes, with outputs that are short in half of them, another lattice, another vertex count.
 fn not_built(lattices: &Lattices) -> Vec<Asked> {
     let call = exact(lattices, (2, 2), UNITS[1]);
     let rooms = [call.room, 3].into_iter().cycle();

@@ -1,0 +1,60 @@
+-- `replay_foliation::fill_lengths` is safe: i counts up to the length of the list, which a write keeps. Assumes nothing.
+use Prim.Native.Nat.{_≤_, _-_}
+use mathlib.Core.Path.{_≡_}
+use lib.ListN.{length}
+use borrow.Author.Needs.{needs}
+use Rattle.replay_foliation.proofs.fill_lengths.Statement.{statement}
+use Rattle.replay_foliation.proofs.fill_lengths.Tie as tie
+
+abbrev Inv-loop : tie.InvT-loop
+Inv-loop lengths₀ i₀ i-end lengths i = (i ≤ i-end) × (i-end ≡ length lengths₀) × (length lengths ≡ length lengths₀)
+
+abbrev μ-loop : tie.MeasureT-loop
+μ-loop lengths₀ i₀ i-end lengths i = i-end - i
+
+loop-holds : tie.Need-loop-holds Inv-loop μ-loop
+loop-holds c = search needs
+
+add-of-bits : tie.Need-add-of-bits Inv-loop μ-loop
+add-of-bits c = search needs
+
+of-bits-requires : tie.Need-of-bits-requires Inv-loop μ-loop
+of-bits-requires c κs = search needs
+
+mul-lengths : tie.Need-mul-lengths Inv-loop μ-loop
+mul-lengths c = search needs
+
+slice-write-lengths : tie.Need-slice-write-lengths Inv-loop μ-loop
+slice-write-lengths c = search needs
+
+add-i : tie.Need-add-i Inv-loop μ-loop
+add-i c = search needs
+
+loop-less : tie.Need-loop-less Inv-loop μ-loop
+loop-less c = search needs
+
+loop-again : tie.Need-loop-again Inv-loop μ-loop
+loop-again c = search needs
+
+same-length : tie.Need-same-length Inv-loop μ-loop
+same-length c = search needs
+
+returns : tie.Need-returns Inv-loop μ-loop
+returns c = search needs
+
+pub fill-lengths-spec : {M : Type 1} → statement M
+fill-lengths-spec =
+    tie.close
+    (tie.spec
+    Inv-loop
+    μ-loop
+    loop-holds
+    add-of-bits
+    of-bits-requires
+    mul-lengths
+    slice-write-lengths
+    add-i
+    loop-less
+    loop-again
+    same-length
+    returns)
