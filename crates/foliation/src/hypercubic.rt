@@ -94,7 +94,7 @@ fn path_at(lattice: Lattice, k: usize) -> [u32; 5]
     )
 }
 
-// All of them, one after the other.
+// All of them, one after the other, repeated ones too.
 fn write_paths(lattice: Lattice, given: &mut [u32])
     requires { ⌜ (isLawful lattice ≡ true) × (120 * vertexCount lattice ≤ length (now given)) ⌝ }
     ensures { λ _. ⌜ now (given .exit) ≡ over (flat (paths lattice)) (now (given .entry)) ⌝ }
@@ -107,7 +107,7 @@ fn write_paths(lattice: Lattice, given: &mut [u32])
     }
 }
 
-// The first of equals kept. Answers how many there are.
+// The lattice's pentachorons, the first of equals kept. Answers how many there are.
 pub fn list(lattice: Lattice, pents: &mut [u32]) -> usize
     requires { ⌜ (isLawful lattice ≡ true) × (120 * vertexCount lattice ≤ length (now pents)) ⌝ }
     ensures { λ r. ⌜ (r ≡ length (latticePents lattice)) × (now (pents .exit) ≡ over (flat (latticePents lattice)) (now (pents .entry))) ⌝ }
