@@ -2,6 +2,7 @@
 mod compare_checks;
 mod differences;
 mod guarded;
+mod guards;
 mod ours;
 
 use calls::complexes::KINDS;

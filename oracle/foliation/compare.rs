@@ -6,7 +6,8 @@ mod compare_lists;
 mod differences;
 #[path = "../complex/guarded.rs"]
 mod guarded;
-mod lent;
+#[path = "../complex/guards.rs"]
+mod guards;
 mod library;
 #[path = "../complex/ours.rs"]
 mod ours;

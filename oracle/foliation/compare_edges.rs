@@ -1,5 +1,5 @@
 //! Compares our library's edge types and flat lengths with the altered Rust's and their refusals with the table.
-use crate::lent::Lent;
+use crate::guards::Guarded;
 use crate::library;
 use crate::tally::{Tally, of_numbers, of_values};
 use altered::foliation::FoliatedComplex;
@@ -29,16 +29,16 @@ const GUARD_BITS: u64 = 0x5a5a_a5a5_5a5a_a5a5;
 struct Over<'a> {
     size: Size,
     given: &'a Check,
-    counts: Lent<usize>,
-    lists: [Lent<u32>; 10],
+    counts: Guarded<usize>,
+    lists: [Guarded<u32>; 10],
     expected: Result<&'a FoliatedComplex, u32>,
 }
 
 impl<'a> Over<'a> {
     /// A size with counts and lists.
     fn new(lattices: &'a Lattices, size: Size, given: &'a Check) -> Self {
-        let counts = Lent::new(&given.counts, GUARD as usize);
-        let lists = given.lists.each_ref().map(|list| Lent::new(list, GUARD));
+        let counts = Guarded::new(&given.counts, GUARD as usize);
+        let lists = given.lists.each_ref().map(|list| Guarded::new(list, GUARD));
         Over { size, given, counts, lists, expected: expected::over(lattices, size, given) }
     }
 
@@ -50,14 +50,9 @@ impl<'a> Over<'a> {
 
     /// What a call did to what it was lent to read.
     fn stray(&self) -> Vec<String> {
-        let changed = |name: &str, changed: bool| changed.then(|| format!("{name}: changed"));
-        let mut found = Vec::from_iter(self.counts.complaint("counts"));
-        found.extend(changed("counts", self.counts.content() != self.given.counts));
-        for ((list, lent), given) in LISTS.iter().zip(&self.lists).zip(&self.given.lists) {
-            found.extend(lent.complaint(list.name));
-            found.extend(changed(list.name, lent.content() != given));
-        }
-        found
+        let given = LISTS.iter().zip(&self.lists).zip(&self.given.lists);
+        let complaints = given.flat_map(|((list, guarded), given)| guarded.complaints(list.name, given));
+        complaints.chain(self.counts.complaints("counts", &self.given.counts)).collect()
     }
 
     /// How many edges the size's lattice has, or how many are counted.
@@ -108,7 +103,7 @@ impl Edges<'_> {
     /// Asks for the types and compares all that the call left.
     fn types(&mut self, kind: &str, over: &mut Over, room: usize) {
         let before: Vec<u8> = (0..room).map(|place| (place % 250) as u8 + 5).collect();
-        let mut output = Lent::new(&before, GUARD_BYTE);
+        let mut output = Guarded::new(&before, GUARD_BYTE);
         let lists = over.lent();
         let number = unsafe { library::edge_types(over.size, over.counts.start(), lists, (output.start(), room)) };
         let (expected, values) = expected::filled(over.expected, expected::types, before);
@@ -122,7 +117,7 @@ impl Edges<'_> {
     /// Asks for the lengths and compares all that the call left.
     fn lengths(&mut self, kind: &str, over: &mut Over, room: usize, units: Units) {
         let before: Vec<u64> = (0..room as u64).map(|place| 0x1357_0000_0000_0000 + place).collect();
-        let mut output = Lent::new(&before, GUARD_BITS);
+        let mut output = Guarded::new(&before, GUARD_BITS);
         let (counts, lists, lent) = (over.counts.start(), over.lent(), (output.start().cast(), room));
         let number = unsafe { library::flat_minkowski_sq_lengths(over.size, counts, lists, units, lent) };
         let values = |lattice: &FoliatedComplex| expected::lengths(lattice, units);

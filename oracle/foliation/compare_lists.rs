@@ -1,5 +1,5 @@
 //! Compares our library's foliated_hypercubic with the altered Rust's pentachorons and its refusals with their table.
-use crate::lent::Lent;
+use crate::guards::Guarded;
 use crate::tally::{Tally, of_numbers};
 use crate::{compare_built, differences, library};
 use calls::random::Random;
@@ -17,8 +17,8 @@ pub fn before(room: usize) -> Vec<u32> {
 
 /// Makes the call; what it leaves, and what it did to memory that it wasn't lent to write to.
 pub fn listed(size: Size, before: &[u32]) -> (Listed, Vec<String>) {
-    let mut pents = Lent::new(before, GUARD);
-    let mut count = Lent::new(&[COUNT], GUARD as usize);
+    let mut pents = Guarded::new(before, GUARD);
+    let mut count = Guarded::new(&[COUNT], GUARD as usize);
     let number = unsafe { library::foliated_hypercubic(size, (pents.start(), before.len()), count.start()) };
     let stray = [pents.complaint("pents"), count.complaint("count")].into_iter().flatten().collect();
     (Listed { number, pents: pents.content().to_vec(), count: count.content()[0] }, stray)

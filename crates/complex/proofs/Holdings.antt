@@ -15,7 +15,7 @@ use Rattle.lists.specs.Keys.{find}
 use Rattle.lists.specs.Rows.{flat, rows, Wide, starts, begins}
 use Rattle.lists.specs.Groups.{Below}
 use Rattle.lists.specs.GroupSteps.{order}
-use Rattle.lists.proofs.Tests.{Says, pass, leb-says, ltb-says, and-says, said, passes}
+use Rattle.lists.proofs.Tests.{Says, pass, leb-says, ltb-says, and-says, both-says, said, passes}
 use Rattle.lists.proofs.Elements.{getD-mem, mem-gather, length-gather, length-upto, mem-upto, getD-table, map-upto, map-same, within-says, Sub, rising-sub}
 use Rattle.lists.proofs.Keys.{find-mem}
 use Rattle.lists.proofs.Rows.{length-rows, rowPart, row-part, length-starts, starts-first, starts-last, begins-says, begins-long, part, Splits, flat-parts, length-parts, starts-parts, flat-sub, begun-start, begun-fits, begun-part}
@@ -77,7 +77,7 @@ module _ (rs : List (List ℕ)) (s : List ℕ) where
       here : Says (Lies lo i) (leb lo i && ltb i (length rs) && within s (getD rs i []))
       here =
           and-says {P = (lo ≤ i) × (i < length rs)} (λ p w. (p .0, p .1, w)) (λ t. (t .0, t .1)) (λ t. t .2)
-          (and-says (λ a b. (a, b)) (λ p. p .0) (λ p. p .1) (leb-says lo i) (ltb-says i (length rs)))
+          (both-says (leb-says lo i) (ltb-says i (length rs)))
           (within-says s (getD rs i []))
 
   -- they are among all such rows
@@ -102,7 +102,7 @@ part-says rs s items ss j =
     (λ p q. record { rise = p .0; room = p .1; lie = q })
     (λ r. (r .rise, r .room))
     (λ r. r .lie)
-    (and-says (λ a b. (a, b)) (λ p. p .0) (λ p. p .1) (leb-says (getD ss j 0) (getD ss (j + 1) 0)) (leb-says (getD ss (j + 1) 0) (length items)))
+    (both-says (leb-says (getD ss j 0) (getD ss (j + 1) 0)) (leb-says (getD ss (j + 1) 0) (length items)))
     (lying-says rs s 0 (part ss items j))
 
 -- what the check tests of items and starts, at n keys: the parts lie, and have the total all together

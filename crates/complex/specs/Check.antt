@@ -93,13 +93,13 @@ checkedOf c l edges tris =
     cond (not (isBuilt c l)) (Outcome.Refused NotBuilt)
     (cond (ltb edges (10 * c .pentachorons) || ltb tris (10 * c .pentachorons)) (Outcome.Refused ShortRoom) Outcome.Done)
 
--- a lent list after the check, by its answer: unchanged where it refuses
-abbrev pub notedAfter : {A : Type 0} → Outcome → List A → List A → List A
-notedAfter Outcome.Done numbers old = over numbers old
-notedAfter (Outcome.Refused r) numbers old = old
+-- a lent list after a call, by its outcome: unchanged where the call is refused
+abbrev pub writtenAfter : {A : Type 0} → Outcome → List A → List A → List A
+writtenAfter Outcome.Done new old = over new old
+writtenAfter (Outcome.Refused r) new old = old
 
 -- the check of a complex: the answer r, and the edge numbers and triangle numbers of its pentachorons
 pub record Checked (c : Counts) (l : Lists) (pe pt : List ℕ) (r : Outcome) (pe′ pt′ : List ℕ) : Type 0 where
   pub answered : r ≡ checkedOf c l (length pe) (length pt)
-  pub edges : pe′ ≡ notedAfter r (numbersOf Edge (pentsIn c (l .pents))) pe
-  pub triangles : pt′ ≡ notedAfter r (numbersOf Triangle (pentsIn c (l .pents))) pt
+  pub edges : pe′ ≡ writtenAfter r (numbersOf Edge (pentsIn c (l .pents))) pe
+  pub triangles : pt′ ≡ writtenAfter r (numbersOf Triangle (pentsIn c (l .pents))) pt

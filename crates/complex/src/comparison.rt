@@ -8,7 +8,7 @@ use lists::copy_row;
 use refusals::Outcome;
 use refusals::Refusal;
 ghost use mathlib.Core.Path.{_≡_};
-ghost use mathlib.Core.Bool.{true, _&&_};
+ghost use mathlib.Core.Bool.{true};
 ghost use Prim.Native.Nat.{_+_, _*_, _/_, _≤_};
 ghost use lib.ListN.{length, take, drop};
 ghost use Rattle.lists.specs.Rows.{rows};
@@ -168,7 +168,7 @@ fn has_adjacency(
 
 // Whether counts and lists are what the builder answers and writes. The numbers of the edges and triangles of each pentachoron
 // are noted.
-fn compare(
+fn is_built_noting(
     counts: Counts,
     pents: &[u32],
     edges: &[u32],
@@ -238,7 +238,7 @@ pub fn is_built(
 {
     let mut edge_numbers = [0u32; 81920];
     let mut tri_numbers = [0u32; 81920];
-    compare(
+    is_built_noting(
         counts,
         pents,
         edges,
@@ -279,7 +279,7 @@ pub fn check_built(
 {
     let mut edge_numbers = [0u32; 81920];
     let mut tri_numbers = [0u32; 81920];
-    if !compare(
+    if !is_built_noting(
         counts,
         pents,
         edges,

@@ -19,7 +19,7 @@ latticeOf t s = record { «n_t» = t; «n_s» = s }
 -- the list of a lattice's pentachorons: the answer in plain numbers, and the list and the count after it
 pub record Listed (l : Lattice) (old : List ℕ) (count r : ℕ) (new : List ℕ) (count′ : ℕ) : Type 0 where
   pub answer : Foliation.Listed
-  pub lists : Listing.Lists l old answer new
+  pub lists : Listing.ListsPents l old answer new
   pub numbered : r ≡ listedNumber answer
   pub counted : count′ ≡ countOr answer count
 

@@ -388,7 +388,7 @@ pub extern "C" fn cjapthumi_flat_minkowski_sq_lengths(
     ensures { λ r. ⌜ Filled (latticeOf «n_t» «n_s») (now (counts .entry)) (lists (now (pents .entry)) (now (edges .entry)) (now (triangles .entry)) (now (tets .entry))
         (now («tri_to_pents_items» .entry)) (now («tri_to_pents_starts» .entry)) (now («edge_to_tris_items» .entry)) (now («edge_to_tris_starts» .entry))
         (now («edge_to_pents_items» .entry)) (now («edge_to_pents_starts» .entry)))
-        (lengthsOf (latticeOf «n_t» «n_s») spacing dt (edgesIn (countsOfList (now (counts .entry))) (now (edges .entry)))) (now («sq_lengths» .entry)) r (now («sq_lengths» .exit)) ⌝ }
+        (lengthsOf (latticeOf «n_t» «n_s») (edgesIn (countsOfList (now (counts .entry))) (now (edges .entry))) spacing dt) (now («sq_lengths» .entry)) r (now («sq_lengths» .exit)) ⌝ }
 {
     let outcome = flat_minkowski_sq_lengths(
         lattice_of(n_t, n_s),

@@ -30,8 +30,7 @@ use Rattle.complex.proofs.BuiltAgain.{builder-left, builder-built}
 use Rattle.foliation.specs.declared.Lattice.{Lattice}
 use Rattle.foliation.specs.declared.coords.Coords.{Coords}
 use Rattle.foliation.specs.Lattice.{vertexCount, vertex, orders, corners, path, cells, paths, latticePents}
-use Rattle.foliation.specs.OnLattice.{hasPents}
-use Rattle.foliation.specs.OnLattice as OnLattice
+use Rattle.foliation.specs.OnLattice.{hasLatticePents, latticeCheckOf}
 use Rattle.foliation.proofs.Sizes.{Lawful, lawful-says}
 use Rattle.foliation.proofs.Coordinates.{vertex-below}
 use Rattle.foliation.proofs.Orders.{corners-once}
@@ -116,14 +115,14 @@ module _ (l : Lattice) (ok : Lawful l) where
     built : (c ≡ countsOf (vertexCount l) (latticePents l)) × (after ≡ overAll (written (latticePents l)) before)
     built = let d = builder-left (vertexCount l) (flat (latticePents l)) before after c b in (rw sorted-same at (d .1), rw sorted-same at (d .2))
 
-    has : hasPents l c (after .pents) ≡ true
-    unfolding hasPents countsOf written overAll
+    has : hasLatticePents l c (after .pents) ≡ true
+    unfolding hasLatticePents countsOf written overAll
     has =
         let v : c .vertices ≡ vertexCount l = ap (λ (d : Counts). d .vertices) (built .0) in
         let n : c .pentachorons ≡ length (latticePents l) = ap (λ (d : Counts). d .pentachorons) (built .0) in
         rw (eq-eqb _ _ v, eq-eqb _ _ n, begins-over (flat (latticePents l)) (before .pents) (after .pents) (ap (λ (d : Lists). d .pents) (built .1))) refl
 
     -- edge types and flat lengths are refused for it only where the lent list is shorter than the number of edges
-    pub lattice-answers : (room : ℕ) → OnLattice.checkOf l c after room ≡ cond (ltb room (c .edges)) (Refused ShortRoom) Done
-    unfolding OnLattice.checkOf
+    pub lattice-answers : (room : ℕ) → latticeCheckOf l c after room ≡ cond (ltb room (c .edges)) (Refused ShortRoom) Done
+    unfolding latticeCheckOf
     lattice-answers room = rw (passes (lawful-says l) ok, has, builder-built (vertexCount l) (flat (latticePents l)) before after c b) refl

@@ -14,9 +14,11 @@ use Rattle.foliation.specs.Parts.{pathAt}
 use Rattle.foliation.proofs.Sizes.{Lawful}
 
 module _ (l : Lattice) (ok : Lawful l) where
+  -- the points along the time axis
   nt : ℕ
   nt = l .«n_t»
 
+  -- the points along an axis of space
   ns : ℕ
   ns = l .«n_s»
 

@@ -2,14 +2,14 @@
 use Prim.Native.Nat.{ℕ, suc, _+_, _*_, _/_, _%_, _≤_, _<_}
 use mathlib.Core.Path.{_≡_}
 use mathlib.Core.Bool.{cond}
-use native.Mathlib.Nat.{mod-lt, mod-le, div-le-self, mul-le-mul-left, mul-suc}
+use native.Mathlib.Nat.{mod-le, div-le-self, mul-le-mul-left, mul-suc}
 use native.Mathlib.Omega.{arith}
 use Rattle.lists.proofs.Tests.{Says, pass, fail, eqb-says}
 use Rattle.foliation.specs.declared.Lattice.{Lattice}
 use Rattle.foliation.specs.declared.coords.Coords.{Coords}
 use Rattle.foliation.specs.Lattice.{vertexCount, vertex, coordsOf, stepped}
 use Rattle.foliation.specs.Parts.{Near}
-use Rattle.foliation.proofs.Sizes.{Lawful}
+use Rattle.foliation.proofs.Sizes.{Lawful, remainder-below}
 
 -- ---- small coordinates
 
@@ -45,19 +45,16 @@ step-near m c axis n = go (eqb-says axis 0) (eqb-says axis 1) (eqb-says axis 2)
 -- ---- digits
 
 -- a number of two digits
-pub digits-below : (a b n m : ℕ) → a < n → b < m → a + n * b < n * m
+digits-below : (a b n m : ℕ) → a < n → b < m → a + n * b < n * m
 digits-below a b n m h k = let p : n * suc b ≤ n * m = mul-le-mul-left n k in omega (arith, mul-suc n b)
 
 module _ (l : Lattice) (ok : Lawful l) (c : Coords) where
-  below : (v n : ℕ) → 2 ≤ n → v % n < n
-  below v n h = mod-lt v (omega arith)
-
   pub plane-below : c .y % l .«n_s» + l .«n_s» * (c .z % l .«n_s») < l .«n_s» * l .«n_s»
-  plane-below = digits-below (c .y % l .«n_s») (c .z % l .«n_s») (l .«n_s») (l .«n_s») (below (c .y) (l .«n_s») (ok .s-least)) (below (c .z) (l .«n_s») (ok .s-least))
+  plane-below = digits-below (c .y % l .«n_s») (c .z % l .«n_s») (l .«n_s») (l .«n_s») (remainder-below (c .y) (l .«n_s») (ok .s-least)) (remainder-below (c .z) (l .«n_s») (ok .s-least))
 
   pub space-below : c .x % l .«n_s» + l .«n_s» * (c .y % l .«n_s» + l .«n_s» * (c .z % l .«n_s»)) < l .«n_s» * (l .«n_s» * l .«n_s»)
-  space-below = digits-below _ _ (l .«n_s») (l .«n_s» * l .«n_s») (below (c .x) (l .«n_s») (ok .s-least)) plane-below
+  space-below = digits-below _ _ (l .«n_s») (l .«n_s» * l .«n_s») (remainder-below (c .x) (l .«n_s») (ok .s-least)) plane-below
 
   pub vertex-below : vertex l c < vertexCount l
   unfolding vertex
-  vertex-below = digits-below _ _ (l .«n_t») (l .«n_s» * (l .«n_s» * l .«n_s»)) (below (c .t) (l .«n_t») (ok .t-least)) space-below
+  vertex-below = digits-below _ _ (l .«n_t») (l .«n_s» * (l .«n_s» * l .«n_s»)) (remainder-below (c .t) (l .«n_t») (ok .t-least)) space-below

@@ -2,7 +2,6 @@
 use Prim.Native.Nat.{ℕ, suc, _+_, _-_, _/_, _%_, _^_, _≤_, _<_}
 use mathlib.Core.Path.{_≡_, refl, sym, ap, _∙_}
 use mathlib.Core.Bool.{Bool, true, cond}
-use native.Mathlib.Nat.{mod-lt}
 use native.Mathlib.Omega.{arith}
 use lib.Dec.{T, eqb, le→leb}
 use lib.IntN.{pos, negsuc, subℕ}
@@ -13,7 +12,7 @@ use Rattle.lists.proofs.Tests.{Says, pass, fail, eqb-says, ltb-says, says-by, s
 use Rattle.foliation.specs.declared.Lattice.{Lattice}
 use Rattle.foliation.specs.Lattice.{isLawful}
 use Rattle.foliation.specs.Edges.{minImage, isZero}
-use Rattle.foliation.proofs.Sizes.{lawful}
+use Rattle.foliation.proofs.Sizes.{lawful, remainder-below}
 
 -- ---- differences as doubles
 
@@ -23,7 +22,7 @@ unfolding inFloat
 whole-fits n h = le→leb n (2 ^ 53) (omega arith)
 
 -- b - a where a is larger
-pub sub-down : (a b : ℕ) → b < a → subℕ b a ≡ negsuc (a - suc b)
+sub-down : (a b : ℕ) → b < a → subℕ b a ≡ negsuc (a - suc b)
 sub-down a b h = rw (lt-ltb b a h) refl
 
 -- b - a where it is no number below 0
@@ -56,4 +55,4 @@ zero-says a b n ha hb = go (ltb-says (a + n / 2) b) (ltb-says (b + n / 2) a)
 
 -- the type's test of two vertices
 pub time-says : (l : Lattice) → isLawful l ≡ true → (a b : ℕ) → Says (a % l .«n_t» ≡ b % l .«n_t») (isZero (minImage (a % l .«n_t») (b % l .«n_t») (l .«n_t»)))
-time-says l h a b = let s : 0 < l .«n_t» = omega (arith, lawful l h .t-least) in zero-says (a % l .«n_t») (b % l .«n_t») (l .«n_t») (mod-lt a s) (mod-lt b s)
+time-says l h a b = let s = lawful l h .t-least in zero-says (a % l .«n_t») (b % l .«n_t») (l .«n_t») (remainder-below a (l .«n_t») s) (remainder-below b (l .«n_t») s)

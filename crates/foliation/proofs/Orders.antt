@@ -3,7 +3,7 @@ use Prim.Native.Nat.{ℕ, zero, suc, _+_, _*_, _/_, _%_, _^_, _≤_, _<_}
 use mathlib.Core.Path.{_≡_, refl, sym, ap, _∙_}
 use mathlib.Core.Logic.{⊎-elim}
 use mathlib.Core.List.{List, [], _∷_, map, map-map, List·Memᴰ, Memᴰ·map}
-use native.Mathlib.Nat.{zero-add, mod-lt, mod-self, mod-eq-of-lt, mod-add-mod, add-mul-mod-self-left, add-mul-div-left, div-eq-of-lt, div-div-eq-div-mul}
+use native.Mathlib.Nat.{zero-add, mod-self, mod-eq-of-lt, mod-add-mod, add-mul-mod-self-left, add-mul-div-left, div-eq-of-lt, div-div-eq-div-mul}
 use native.Mathlib.Omega.{arith}
 use lib.ListN.{length, getD}
 use Rattle.lists.specs.Lists.{gather, upto, Once}
@@ -16,7 +16,7 @@ use Rattle.complex.proofs.Rises.{RisesBelow, AllRise, all-rise-says}
 use Rattle.foliation.specs.declared.Lattice.{Lattice}
 use Rattle.foliation.specs.declared.coords.Coords.{Coords}
 use Rattle.foliation.specs.Lattice.{coords, vertex, swap, permute, orders, stepped, corners, path}
-use Rattle.foliation.proofs.Sizes.{Lawful}
+use Rattle.foliation.proofs.Sizes.{Lawful, remainder-below}
 
 -- ---- four steps
 
@@ -86,7 +86,7 @@ digits-same n a b a′ b′ h h′ e =
 -- a periodic axis of two points or more takes a number and the next to different points
 next-apart : (v n : ℕ) → 2 ≤ n → v % n ≡ (v + 1) % n → ⊥
 next-apart v n h e =
-    let r : v % n < n = mod-lt v (omega arith) in
+    let r : v % n < n = remainder-below v n h in
     let f : v % n ≡ (v % n + 1) % n = e ∙ sym (mod-add-mod v n 1) in
     ⊎-elim
     (λ (k : v % n + 1 < n). let z : (v % n + 1) % n ≡ v % n + 1 = mod-eq-of-lt k in omega arith)
@@ -117,8 +117,8 @@ module _ (l : Lattice) (ok : Lawful l) (c : Coords) where
   corner-same m n hm hn e =
       let nt = l .«n_t» in
       let ns = l .«n_s» in
-      let in-t : (v : ℕ) → v % nt < nt = λ v. mod-lt v (omega (arith, ok .t-least)) in
-      let in-s : (v : ℕ) → v % ns < ns = λ v. mod-lt v (omega (arith, ok .s-least)) in
+      let in-t : (v : ℕ) → v % nt < nt = λ v. remainder-below v nt (ok .t-least) in
+      let in-s : (v : ℕ) → v % ns < ns = λ v. remainder-below v ns (ok .s-least) in
       let t = digits-same nt _ _ _ _ (in-t _) (in-t _) e in
       let x = digits-same ns _ _ _ _ (in-s _) (in-s _) (t .1) in
       let y = digits-same ns _ _ _ _ (in-s _) (in-s _) (x .1) in

@@ -17,7 +17,7 @@ use Rattle.complex.proofs.FaceLists.{has-room}
 use Rattle.complex.proofs.BuiltComplex.{built-says}
 use Rattle.foliation.specs.declared.Lattice.{Lattice}
 use Rattle.foliation.specs.Lattice.{isLawful}
-use Rattle.foliation.specs.OnLattice.{hasPents, checkOf}
+use Rattle.foliation.specs.OnLattice.{hasLatticePents, latticeCheckOf}
 
 -- the size is lawful, and each edge has its two vertices and a place in the lent list
 pub record Passed (l : Lattice) (c : Counts) (ls : Lists) (room : ℕ) : Type 0 where
@@ -25,10 +25,10 @@ pub record Passed (l : Lattice) (c : Counts) (ls : Lists) (room : ℕ) : Type 0 
   pub ends : 2 * c .edges ≤ length (ls .edges)
   pub places : c .edges ≤ room
 
-pub passed : (l : Lattice) (c : Counts) (ls : Lists) (room : ℕ) → checkOf l c ls room ≡ Done → Passed l c ls room
-unfolding checkOf
+pub passed : (l : Lattice) (c : Counts) (ls : Lists) (room : ℕ) → latticeCheckOf l c ls room ≡ Done → Passed l c ls room
+unfolding latticeCheckOf
 passed l c ls room h =
-    let p = hasPents l c (ls .pents) in
+    let p = hasLatticePents l c (ls .pents) in
     let s = cond-done (not (isLawful l)) LatticeSize _ h in
     let b = cond-done (not (p && isBuilt c ls)) NotBuilt _ (s .1) in
     let r = cond-done (ltb room (c .edges)) ShortRoom Done (b .1) in

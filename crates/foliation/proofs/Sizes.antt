@@ -1,8 +1,9 @@
 -- What a lawful size says. Assumes nothing.
-use Prim.Native.Nat.{ℕ, _*_, _≤_}
+use Prim.Native.Nat.{ℕ, _*_, _%_, _≤_, _<_}
 use mathlib.Core.Path.{_≡_}
 use mathlib.Core.Bool.{true}
-use native.Mathlib.Nat.{mul-le-mul}
+use native.Mathlib.Nat.{mod-lt, mul-le-mul}
+use native.Mathlib.Omega.{arith}
 use Rattle.lists.proofs.Tests.{Says, leb-says, and-says, both-says, said}
 use Rattle.foliation.specs.declared.Lattice.{Lattice}
 use Rattle.foliation.specs.Lattice.{vertexCount, isLawful}
@@ -30,6 +31,10 @@ pub lawful : (l : Lattice) → isLawful l ≡ true → Lawful l
 lawful l h = said (lawful-says l) h
 
 -- ---- bounds
+
+-- a remainder along an axis
+pub remainder-below : (v n : ℕ) → 2 ≤ n → v % n < n
+remainder-below v n h = mod-lt v (omega arith)
 
 pub square-most : (n : ℕ) → n ≤ 8 → n * n ≤ 64
 square-most n h = mul-le-mul h h

@@ -49,12 +49,12 @@ unfoldable pub minkowski : Float → Float → Float → Float → Float
 minkowski δt δx δy δz = neg δt ⊗ δt ⊕ δx ⊗ δx ⊕ δy ⊗ δy ⊕ δz ⊗ δz
 
 -- the squared length of the edge from a to b
-unfoldable pub sqLengthOf : Lattice → Float → Float → ℕ → ℕ → Float
-sqLengthOf l spacing dt a b =
+unfoldable pub sqLengthOf : Lattice → ℕ → ℕ → Float → Float → Float
+sqLengthOf l a b spacing dt =
     let p = coordsOf l a in
     let q = coordsOf l b in
     minkowski (deltaOf (p .t) (q .t) (l .«n_t») dt) (deltaOf (p .x) (q .x) (l .«n_s») spacing) (deltaOf (p .y) (q .y) (l .«n_s») spacing) (deltaOf (p .z) (q .z) (l .«n_s») spacing)
 
 -- the squared lengths of some edges
-unfoldable pub lengthsOf : Lattice → Float → Float → List (List ℕ) → List Float
-lengthsOf l spacing dt es = map (λ e. sqLengthOf l spacing dt (getD e 0 0) (getD e 1 0)) es
+unfoldable pub lengthsOf : Lattice → List (List ℕ) → Float → Float → List Float
+lengthsOf l es spacing dt = map (λ e. sqLengthOf l (getD e 0 0) (getD e 1 0) spacing dt) es

@@ -33,6 +33,6 @@ listAfter (Done n) l old = over (flat (latticePents l)) old
 listAfter (Refused r) l old = old
 
 -- the call: its answer, and the list after it
-pub record Lists (l : Lattice) (old : List ℕ) (r : Listed) (new : List ℕ) : Type 0 where
+pub record ListsPents (l : Lattice) (old : List ℕ) (r : Listed) (new : List ℕ) : Type 0 where
   pub answered : r ≡ listedOf l (length old)
   pub left : new ≡ listAfter r l old

@@ -11,7 +11,7 @@ ghost use mathlib.Core.Path.{_≡_};
 ghost use mathlib.Core.Bool.{true};
 ghost use Rattle.complex.specs.Builder.{lists};
 ghost use Rattle.foliation.specs.Lattice.{isLawful};
-ghost use Rattle.foliation.specs.OnLattice.{hasPents, checkOf};
+ghost use Rattle.foliation.specs.OnLattice.{hasLatticePents, latticeCheckOf};
 
 // Whether n_t and n_s are in 2..8 and there are at most 341 cells.
 pub fn is_lawful(lattice: Lattice) -> bool
@@ -37,14 +37,14 @@ pub fn is_lawful(lattice: Lattice) -> bool
 // Whether vertex count and pentachorons are those of the lattice.
 fn has_pents(lattice: Lattice, counts: Counts, pents: &[u32]) -> bool
     requires { ⌜ isLawful lattice ≡ true ⌝ }
-    ensures { λ r. ⌜ r ≡ hasPents lattice counts (now (pents .entry)) ⌝ }
+    ensures { λ r. ⌜ r ≡ hasLatticePents lattice counts (now (pents .entry)) ⌝ }
 {
-    let mut own = [0u32; 40920];
-    let count = list(lattice, &mut own);
-    let len = 5 * count;
     if counts.vertices != n_total(lattice) {
         return false;
     }
+    let mut own = [0u32; 40920];
+    let count = list(lattice, &mut own);
+    let len = 5 * count;
     if counts.pentachorons != count {
         return false;
     }
@@ -70,7 +70,7 @@ pub fn check(
     edge_to_pents_starts: &[u32],
     room: usize,
 ) -> Outcome
-    ensures { λ r. ⌜ r ≡ checkOf lattice counts (lists (now (pents .entry)) (now (edges .entry)) (now (triangles .entry)) (now (tets .entry))
+    ensures { λ r. ⌜ r ≡ latticeCheckOf lattice counts (lists (now (pents .entry)) (now (edges .entry)) (now (triangles .entry)) (now (tets .entry))
         (now («tri_to_pents_items» .entry)) (now («tri_to_pents_starts» .entry)) (now («edge_to_tris_items» .entry)) (now («edge_to_tris_starts» .entry))
         (now («edge_to_pents_items» .entry)) (now («edge_to_pents_starts» .entry))) room ⌝ }
 {

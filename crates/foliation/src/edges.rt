@@ -80,7 +80,7 @@ fn min_image(a: usize, b: usize, n: usize) -> f64
 // The squared length of the edge from vertex a to vertex b.
 fn sq_length(lattice: Lattice, a: u32, b: u32, spacing: f64, dt: f64) -> f64
     requires { ⌜ isLawful lattice ≡ true ⌝ }
-    ensures { λ r. ⌜ r ≡ sqLengthOf lattice spacing dt a b ⌝ }
+    ensures { λ r. ⌜ r ≡ sqLengthOf lattice a b spacing dt ⌝ }
 {
     let n_t = lattice.n_t;
     let n_s = lattice.n_s;
@@ -115,7 +115,7 @@ pub fn write_sq_lengths(
     sq_lengths: &mut [f64],
 )
     requires { ⌜ (isLawful lattice ≡ true) × (2 * n ≤ length (now edges)) × (n ≤ length (now «sq_lengths»)) ⌝ }
-    ensures { λ _. ⌜ now («sq_lengths» .exit) ≡ over (lengthsOf lattice spacing dt (rows 2 n (now (edges .entry)))) (now («sq_lengths» .entry)) ⌝ }
+    ensures { λ _. ⌜ now («sq_lengths» .exit) ≡ over (lengthsOf lattice (rows 2 n (now (edges .entry))) spacing dt) (now («sq_lengths» .entry)) ⌝ }
 {
     let mut k = 0;
     while k < n {

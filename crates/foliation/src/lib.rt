@@ -11,7 +11,7 @@ use refusals::Refusal;
 ghost use mathlib.Core.Path.{_≡_};
 ghost use Rattle.complex.specs.Builder.{lists};
 ghost use Rattle.complex.specs.Check.{edgesIn};
-ghost use Rattle.foliation.specs.Listing.{listedNumber, countOr, Lists};
+ghost use Rattle.foliation.specs.Listing.{listedNumber, countOr, ListsPents};
 ghost use Rattle.foliation.specs.Edges.{typesOf, lengthsOf};
 ghost use Rattle.foliation.specs.OnLattice.{Filled};
 
@@ -52,7 +52,7 @@ impl Listed {
 // The pentachorons of `foliated_hypercubic`, each sorted, in the order of the loops z, y, x, t and of `permute`, the first of equals
 // kept. A refused call leaves the list as it was; otherwise the places that are not written are kept.
 pub fn foliated_hypercubic(lattice: Lattice, pents: &mut [u32]) -> Listed
-    ensures { λ r. ⌜ Lists lattice (now (pents .entry)) r (now (pents .exit)) ⌝ }
+    ensures { λ r. ⌜ ListsPents lattice (now (pents .entry)) r (now (pents .exit)) ⌝ }
 {
     if !checks::is_lawful(lattice) {
         return Listed::Refused(Refusal::LatticeSize);
@@ -130,7 +130,7 @@ pub fn flat_minkowski_sq_lengths(
     ensures { λ r. ⌜ Filled lattice counts (lists (now (pents .entry)) (now (edges .entry)) (now (triangles .entry)) (now (tets .entry))
         (now («tri_to_pents_items» .entry)) (now («tri_to_pents_starts» .entry)) (now («edge_to_tris_items» .entry)) (now («edge_to_tris_starts» .entry))
         (now («edge_to_pents_items» .entry)) (now («edge_to_pents_starts» .entry)))
-        (lengthsOf lattice spacing dt (edgesIn counts (now (edges .entry)))) (now («sq_lengths» .entry)) r (now («sq_lengths» .exit)) ⌝ }
+        (lengthsOf lattice (edgesIn counts (now (edges .entry))) spacing dt) (now («sq_lengths» .entry)) r (now («sq_lengths» .exit)) ⌝ }
 {
     match checks::check(
         lattice,

@@ -209,17 +209,17 @@ over-turn {A} front part old out out′ n m l h i e =
     ap (λ (k : ℕ). drop k out) (sym z) ∙ sym (drop-drop (m - n) n out) ∙ ap (drop (m - n)) b ∙ drop-drop (m - n) n old ∙ ap (λ (k : ℕ). drop k old) z in
     e ∙ ap (λ (xs : List A). xs ++ part ++ drop m out) a ∙ ap (λ (xs : List A). front ++ part ++ xs) d
 
--- a turn that writes one place of a table
-pub table-turn : {A : Type 0} (f : ℕ → A) (old out : List A) (k : ℕ) → k < length old → length out ≡ length old → out ≡ map f (upto k) ++ drop k old → set out k (f k) ≡ map f (upto (suc k)) ++ drop (suc k) old
+-- a turn that writes one place, by a rule
+pub map-turn : {A : Type 0} (f : ℕ → A) (old out : List A) (k : ℕ) → k < length old → length out ≡ length old → out ≡ map f (upto k) ++ drop k old → set out k (f k) ≡ map f (upto (suc k)) ++ drop (suc k) old
 unfolding upto
-table-turn {A} f old out k h l i =
+map-turn {A} f old out k h l i =
     over-turn (map f (upto k)) (f k ∷ []) old out (set out k (f k)) k (suc k) (length-map (upto k) f ∙ length-upto k) (omega arith) i (set-split out k (f k) (omega arith) ∙ sym (append-assoc (take k out) (f k ∷ []) (drop (suc k) out)))
     ∙ ap (λ (xs : List A). xs ++ drop (suc k) old) (sym (map-append f (upto k) (k ∷ [])))
 
 -- after the last turn
-pub table-done : {A : Type 0} (f : ℕ → A) (old out : List A) (n : ℕ) → out ≡ map f (upto n) ++ drop n old → out ≡ over (map f (upto n)) old
+pub map-done : {A : Type 0} (f : ℕ → A) (old out : List A) (n : ℕ) → out ≡ map f (upto n) ++ drop n old → out ≡ over (map f (upto n)) old
 unfolding over
-table-done f old out n e = e ∙ rw (length-map (upto n) f ∙ length-upto n) refl
+map-done f old out n e = e ∙ rw (length-map (upto n) f ∙ length-upto n) refl
 
 -- a rule for rows of two numbers, by their places
 pub map-pairs : {A : Type 0} (h : ℕ → ℕ → A) (n : ℕ) (xs : List ℕ) → map (λ e. h (getD e 0 0) (getD e 1 0)) (rows 2 n xs) ≡ map (λ k. h (getD xs (2 * k) 0) (getD xs (2 * k + 1) 0)) (upto n)

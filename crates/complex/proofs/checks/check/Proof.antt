@@ -1,5 +1,4 @@
 -- `complex::checks::check` meets its contract. Assumes nothing.
-use Prim.Native.Nat.{_-_}
 use mathlib.Core.Path.{refl, sym, _∙_}
 use borrow.Author.Needs.{needs}
 use borrow.Author.Tests.{eq-eqb, ne-eqb, lt-ltb, le-ltb}

@@ -8,18 +8,18 @@ use lib.Ieee.{Float}
 use lib.ListN.{length, getD, drop, length-set}
 use borrow.Author.Needs.{needs}
 use Rattle.lists.specs.Lists.{upto}
-use Rattle.lists.proofs.Rows.{table-turn, table-done, map-pairs}
+use Rattle.lists.proofs.Rows.{map-turn, map-done, map-pairs}
 use Rattle.foliation.specs.declared.Lattice.{Lattice}
 use Rattle.foliation.specs.Edges.{sqLengthOf, lengthsOf}
 use Rattle.foliation.proofs.edges.write_sq_lengths.Statement.{statement}
 use Rattle.foliation.proofs.edges.write_sq_lengths.Tie as tie
 
 -- the squared length of edge k
-abbrev sqLengthAt : Lattice → Float → Float → List ℕ → ℕ → Float
-sqLengthAt l spacing dt edges k = sqLengthOf l spacing dt (getD edges (2 * k) 0) (getD edges (2 * k + 1) 0)
+abbrev sqLengthAt : Lattice → List ℕ → Float → Float → ℕ → Float
+sqLengthAt l edges spacing dt k = sqLengthOf l (getD edges (2 * k) 0) (getD edges (2 * k + 1) 0) spacing dt
 
 abbrev Inv-loop : tie.InvT-loop
-Inv-loop lattice n edges spacing dt sq-lengths₀ k₀ sq-lengths k = (k ≤ n) × (length sq-lengths ≡ length sq-lengths₀) × (sq-lengths ≡ map (sqLengthAt lattice spacing dt edges) (upto k) ++ drop k sq-lengths₀)
+Inv-loop lattice n edges spacing dt sq-lengths₀ k₀ sq-lengths k = (k ≤ n) × (length sq-lengths ≡ length sq-lengths₀) × (sq-lengths ≡ map (sqLengthAt lattice edges spacing dt) (upto k) ++ drop k sq-lengths₀)
 
 abbrev μ-loop : tie.MeasureT-loop
 μ-loop lattice n edges spacing dt sq-lengths₀ k₀ sq-lengths k = n - k
@@ -70,7 +70,7 @@ loop-again c =
     let l = c .before .before .before .before .loop in (
       omega arith,
       length-set (l .sq-lengths) (l .k) (c .sq-length .result) ∙ l .inv .1,
-      rw (c .sq-length .ensures, add-one (l .k)) (table-turn (sqLengthAt (a .lattice) (a .spacing) (a .dt) (a .edges .now)) (a .sq-lengths .now) (l .sq-lengths) (l .k) (omega arith) (l .inv .1) (l .inv .2)),
+      rw (c .sq-length .ensures, add-one (l .k)) (map-turn (sqLengthAt (a .lattice) (a .edges .now) (a .spacing) (a .dt)) (a .sq-lengths .now) (l .sq-lengths) (l .k) (omega arith) (l .inv .1) (l .inv .2)),
     )
 
 same-length : tie.Need-same-length Inv-loop μ-loop
@@ -82,7 +82,7 @@ returns c =
     let a = c .before .before .before .before .args in
     let l = c .before .loop in
     let e : l .k ≡ a .n = omega arith in
-    rw (map-pairs (λ p q. sqLengthOf (a .lattice) (a .spacing) (a .dt) p q) (a .n) (a .edges .now)) (table-done (sqLengthAt (a .lattice) (a .spacing) (a .dt) (a .edges .now)) (a .sq-lengths .now) (l .sq-lengths) (a .n) (rw e at (l .inv .2)))
+    rw (map-pairs (λ p q. sqLengthOf (a .lattice) p q (a .spacing) (a .dt)) (a .n) (a .edges .now)) (map-done (sqLengthAt (a .lattice) (a .edges .now) (a .spacing) (a .dt)) (a .sq-lengths .now) (l .sq-lengths) (a .n) (rw e at (l .inv .2)))
 
 pub write-sq-lengths-spec : {M : Type 1} → statement M
 write-sq-lengths-spec =

@@ -7,7 +7,7 @@ use native.Mathlib.Omega.{arith}
 use lib.ListN.{length, getD, drop, length-set}
 use borrow.Author.Needs.{needs}
 use Rattle.lists.specs.Lists.{upto}
-use Rattle.lists.proofs.Rows.{table-turn, table-done, map-pairs}
+use Rattle.lists.proofs.Rows.{map-turn, map-done, map-pairs}
 use Rattle.foliation.specs.declared.Lattice.{Lattice}
 use Rattle.foliation.specs.Edges.{typeByte, edgeTypeOf, typesOf}
 use Rattle.foliation.proofs.edges.write_types.Statement.{statement}
@@ -69,7 +69,7 @@ loop-again c =
     let l = c .before .before .before .before .before .loop in (
       omega arith,
       length-set (l .types) (l .k) (c .byte .result) ∙ l .inv .1,
-      rw (c .byte .ensures, c .before .edge-type .ensures, add-one (l .k)) (table-turn (byteAt (a .lattice) (a .edges .now)) (a .types .now) (l .types) (l .k) (omega arith) (l .inv .1) (l .inv .2)),
+      rw (c .byte .ensures, c .before .edge-type .ensures, add-one (l .k)) (map-turn (byteAt (a .lattice) (a .edges .now)) (a .types .now) (l .types) (l .k) (omega arith) (l .inv .1) (l .inv .2)),
     )
 
 same-length : tie.Need-same-length Inv-loop μ-loop
@@ -81,7 +81,7 @@ returns c =
     let a = c .before .before .before .before .args in
     let l = c .before .loop in
     let e : l .k ≡ a .n = omega arith in
-    rw (map-pairs (λ p q. typeByte (edgeTypeOf (a .lattice) p q)) (a .n) (a .edges .now)) (table-done (byteAt (a .lattice) (a .edges .now)) (a .types .now) (l .types) (a .n) (rw e at (l .inv .2)))
+    rw (map-pairs (λ p q. typeByte (edgeTypeOf (a .lattice) p q)) (a .n) (a .edges .now)) (map-done (byteAt (a .lattice) (a .edges .now)) (a .types .now) (l .types) (a .n) (rw e at (l .inv .2)))
 
 pub write-types-spec : {M : Type 1} → statement M
 write-types-spec =

@@ -1,5 +1,4 @@
 -- `complex::numbering::Face::rows_at` meets its contract. Assumes nothing.
-use Prim.Native.Nat.{_-_}
 use borrow.Author.Needs.{needs}
 use Rattle.complex.proofs.SortedPents.{take-five}
 use Rattle.complex.proofs.numbering.Face.rows_at.Statement.{statement}

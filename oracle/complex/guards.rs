@@ -1,19 +1,19 @@
-//! Lists that are lent between guards.
+//! Lists that lie between guards.
 
 /// How many words guard either side of a list.
 const GUARDS: usize = 16;
 
 /// A list between words that hold the guard.
-pub struct Lent<T> {
+pub struct Guarded<T> {
     words: Vec<T>,
     guard: T,
 }
 
-impl<T: Copy + PartialEq> Lent<T> {
+impl<T: Copy + PartialEq> Guarded<T> {
     /// A list of this content.
     pub fn new(content: &[T], guard: T) -> Self {
         let guards = [guard; GUARDS];
-        Lent { words: [&guards, content, &guards].concat(), guard }
+        Guarded { words: [&guards, content, &guards].concat(), guard }
     }
 
     /// The list's start, taken from the whole's.
@@ -32,5 +32,11 @@ impl<T: Copy + PartialEq> Lent<T> {
         let after = &rest[rest.len() - GUARDS..];
         let broken = before.iter().chain(after).any(|&word| word != self.guard);
         broken.then(|| format!("{name}: written next to its {} places", self.content().len()))
+    }
+
+    /// What is to be said of the list of this name, which was lent to be read.
+    pub fn complaints(&self, name: &str, given: &[T]) -> impl Iterator<Item = String> {
+        let changed = (self.content() != given).then(|| format!("{name}: changed"));
+        self.complaint(name).into_iter().chain(changed)
     }
 }

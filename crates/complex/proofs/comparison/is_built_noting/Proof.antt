@@ -1,4 +1,4 @@
--- `complex::comparison::compare` meets its contract. Assumes nothing.
+-- `complex::comparison::is_built_noting` meets its contract. Assumes nothing.
 use mathlib.Core.Bool.{true, false}
 use mathlib.Core.Path.{_≡_, refl, sym, _∙_}
 use native.Mathlib.Omega.{arith}
@@ -10,8 +10,8 @@ use Rattle.complex.specs.CheckParts.{hasPents, hasAllFaces}
 use Rattle.complex.proofs.BuiltComplex.{given-long, given-rows}
 use Rattle.complex.proofs.Comparisons.{pents-pass, faced, built-parts}
 use Rattle.lists.proofs.Tests.{not-both}
-use Rattle.complex.proofs.comparison.compare.Statement.{statement}
-use Rattle.complex.proofs.comparison.compare.Tie as tie
+use Rattle.complex.proofs.comparison.is_built_noting.Statement.{statement}
+use Rattle.complex.proofs.comparison.is_built_noting.Tie as tie
 
 has-pents-requires : tie.Need-has-pents-requires
 has-pents-requires c κs = search needs
@@ -82,8 +82,8 @@ returns-3 c = let a = c .before .before .before .before .before .before .before 
     let g : hasAllFaces (a .counts) (pentsIn (a .counts) (a .pents .now)) (a .edges .now) (a .triangles .now) (a .tets .now) ≡ true = rw rows at (sym (c .before .before .before .before .before .before .has-all-faces .ensures .0) ∙ not-false (c .before .before .before .before .before .before .has-all-faces .result) (c .before .if2 .left)) in
     (c .has-adjacency .ensures ∙ sym (built-parts (a .counts) l ∙ rw (h, g) refl), λ t. rw rows at (c .before .before .before .before .before .before .has-all-faces .ensures .1 (not-false (c .before .before .before .before .before .before .has-all-faces .result) (c .before .if2 .left))))
 
-pub compare-spec : {M : Type 1} → statement M
-compare-spec =
+pub is-built-noting-spec : {M : Type 1} → statement M
+is-built-noting-spec =
     tie.close
     (tie.spec
     has-pents-requires
