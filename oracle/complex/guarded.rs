@@ -24,7 +24,8 @@ pub fn answer(call: &Call, before: &Lent) -> (Answer, Vec<String>) {
     let mut lists = before.lists.each_ref().map(guarded);
     let mut counts = Guarded::new(&before.counts, GUARD as usize);
     let mut place = Guarded::new(&[GUARD as usize], GUARD as usize);
-    let (given, lent) = (lent(&mut pents), lists.each_mut().map(lent));
+    let given = (pents.start().cast_const(), call.pents.len());
+    let lent = lists.each_mut().map(lent);
     let number = unsafe { ours::from_pentachorons(call.n_vertices, given, lent, counts.start(), place.start()) };
     let others = [counts.complaint("counts"), place.complaint("place")].into_iter().flatten();
     let complaints = LISTS.iter().zip(&lists).filter_map(|(list, guarded)| guarded.complaint(list.name));
