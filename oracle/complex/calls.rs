@@ -4,6 +4,7 @@ pub mod complexes;
 pub mod damages;
 pub mod defects;
 pub mod expected;
+pub mod frozen;
 pub mod lattice;
 mod orders;
 mod pieces;

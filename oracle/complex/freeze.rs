@@ -5,16 +5,13 @@ use calls::checks::{self, Check, OUTPUTS};
 use calls::complexes::KINDS;
 use calls::expected::{self, Answer, Lent};
 use calls::random::Random;
-use calls::{Call, Complex, LISTS, Pent, defects, rooms};
+use calls::{Call, Complex, LISTS, Pent, defects, frozen, rooms};
 use changes::Change;
 use std::fmt::Write;
 use std::process::ExitCode;
 
 /// The bound on the numbers of a drawn call's pentachorons.
 const DRAWN: usize = 24;
-
-/// How many bytes the replay reads at most.
-const READ: usize = 65_536;
 
 const FIRST: Pent = [0, 1, 2, 3, 4];
 const NEXT: Pent = [1, 2, 3, 4, 5];
@@ -208,22 +205,10 @@ fn answer((call, changes): &(Call, Vec<Change>)) -> String {
 
 /// Writes the sample and its answers to the two files that are named.
 fn main() -> ExitCode {
-    let paths: Vec<String> = std::env::args().skip(1).collect();
-    let [inputs_path, answers_path] = &paths[..] else {
-        eprintln!("usage: freeze STDIN STDOUT");
-        return ExitCode::from(2);
-    };
     let calls: Vec<_> = sample().into_iter().map(|call| (call, vec![])).chain(damaged()).collect();
     let inputs: String = calls.iter().map(line).collect();
     let answers: String = calls.iter().map(answer).collect();
     let checks = answers.lines().filter(|line| line.starts_with("checked")).count();
     println!("{} calls and {checks} checks frozen, {} and {} bytes", calls.len(), inputs.len(), answers.len());
-    assert!(inputs.len() < READ, "the replay reads no more");
-    for (path, text) in [(inputs_path, inputs), (answers_path, answers)] {
-        if let Err(error) = std::fs::write(path, text) {
-            eprintln!("{path}: {error}");
-            return ExitCode::from(2);
-        }
-    }
-    ExitCode::SUCCESS
+    frozen::write(&inputs, &answers)
 }

@@ -1,5 +1,6 @@
 //! The altered Rust's answers and the table's refusals on a small sample, as the input and the output of a replay.
 use calls::checks::Check;
+use calls::frozen;
 use calls::random::Random;
 use lattices::expected::{self, Lattices};
 use lattices::sizes::{self, Size};
@@ -7,9 +8,6 @@ use lattices::units::{self, Units};
 use phyz_regge::complex::SimplicialComplex;
 use std::fmt::Write;
 use std::process::ExitCode;
-
-/// How many bytes the replay reads at most.
-const READ: usize = 65_536;
 
 /// The most cells of a lattice that the replay builds, and the length of its lists: the longest room.
 const MOST_CELLS: usize = 81;
@@ -257,11 +255,6 @@ fn unlawful(lattices: &Lattices) -> Vec<Asked> {
 
 /// Writes the sample and its answers to the two files that are named.
 fn main() -> ExitCode {
-    let paths: Vec<String> = std::env::args().skip(1).collect();
-    let [inputs_path, answers_path] = &paths[..] else {
-        eprintln!("usage: freeze STDIN STDOUT");
-        return ExitCode::from(2);
-    };
     let lattices = &Lattices::new();
     let edges = [answered(lattices), not_built(lattices), unlawful(lattices)].concat();
     let lines: Vec<Line> = listings().into_iter().chain(edges.into_iter().map(Line::Edges)).collect();
@@ -269,12 +262,5 @@ fn main() -> ExitCode {
     let mut answers = String::new();
     lines.iter().for_each(|line| write!(answers, "{}", line.answer(lattices)).unwrap());
     println!("{} lines frozen, {} and {} bytes", lines.len(), inputs.len(), answers.len());
-    assert!(inputs.len() < READ, "the replay reads no more");
-    for (path, text) in [(inputs_path, inputs), (answers_path, answers)] {
-        if let Err(error) = std::fs::write(path, text) {
-            eprintln!("{path}: {error}");
-            return ExitCode::from(2);
-        }
-    }
-    ExitCode::SUCCESS
+    frozen::write(&inputs, &answers)
 }
