@@ -1,0 +1,132 @@
+-- What a call over a complex has where its checks let it pass, and what it answers where they don't. Assumes nothing.
+use Prim.Native.Nat.{ℕ, _*_, _≤_, _<_}
+use mathlib.Core.Path.{_≡_, refl, sym, ap, _∙_, subst}
+use mathlib.Core.Bool.{Bool, true, false, not, cond, _||_}
+use mathlib.Core.List.{List, List·Memᴰ}
+use native.Mathlib.Omega.{arith}
+use lib.Dec.{eqb, ltb}
+use lib.ListN.{length, replicate, length-replicate}
+use borrow.Author.Tests.{eqb-true, ltb-true, le-ltb, not-false}
+use Rattle.refusals.specs.declared.Refusal.{Refusal}
+use Rattle.refusals.specs.declared.Refusal.the-variants.{ShortRoom, NotBuilt, LengthCount, BadIndex}
+use Rattle.refusals.specs.declared.Outcome.{Outcome}
+use Rattle.refusals.specs.declared.Outcome.the-variants.{Done, Refused}
+use Rattle.lists.proofs.Tests.{said}
+use Rattle.lists.proofs.Keys.{firsts-room}
+use Rattle.lists.proofs.Rows.{length-rows, begins-over}
+use Rattle.complex.specs.declared.Counts.{Counts}
+use Rattle.complex.specs.declared.numbering.Face.the-variants.{Edge, Triangle}
+use Rattle.complex.specs.Complex.{metFaces, faces, numbersOf, edges, triangles}
+use Rattle.complex.specs.Builder.{Lists}
+use Rattle.complex.specs.Check.{pentsIn, isBuilt, checkedOf, Checked, writtenAfter}
+use Rattle.complex.proofs.Offences.{cond-done}
+use Rattle.complex.proofs.Meetings.{length-met}
+use Rattle.complex.proofs.Lying.{faces-has, edge-of-triangle}
+use Rattle.complex.proofs.BuiltComplex.{IsBuilt, built-says, built-sorted, built-wide, built-edges, built-triangles, built-tri-to-pents, built-pent-edges, built-pent-tris, built-simplices, built-lie}
+use Rattle.lorentzian_regge.specs.Calls.{BuiltWith, lengthsCheckOf, builtCheckOf, roomCheckOf, triangleCheckOf}
+use Rattle.lorentzian_regge.specs.Parts.{Measured}
+
+-- ---- a built complex
+
+module _ (c : Counts) (l : Lists) (b : IsBuilt c l) where
+  most-triangles : c .triangles ≤ 81920
+  unfolding faces
+  most-triangles =
+      let ps = pentsIn c (l .pents) in
+      omega (arith, b .has-triangles .count, firsts-room (metFaces Triangle ps), length-met Triangle ps (built-wide c l b), length-rows 5 (c .pentachorons) (l .pents), b .few)
+
+-- it has all that the steps ask, where there are as many lengths as edges
+pub built-measured : (c : Counts) (l : Lists) (pe pt : List ℕ) (n : ℕ) → BuiltWith c l pe pt → n ≡ c .edges
+    → Measured c (l .pents) (l .edges) (l .triangles) (l .triToPents) (l .triToPentsStarts) pe pt n
+built-measured c l pe pt n w e =
+    let b = said (built-says c l) (w .built) in
+    let ps = pentsIn c (l .pents) in
+    record {
+      passable = record {
+        few = b .few;
+        edge-numbers = built-pent-edges c l b pe (w .noted .edges);
+        tri-numbers = built-pent-tris c l b pt (w .noted .triangles);
+        edges-found = λ r s m k. subst (λ (keys : List (List ℕ)). List·Memᴰ s keys) (sym (built-edges c l b)) (faces-has Edge ps m k);
+        triangles-found = λ r s m k. subst (λ (keys : List (List ℕ)). List·Memᴰ s keys) (sym (built-triangles c l b)) (faces-has Triangle ps m k);
+        lengths = e;
+      };
+      few = most-triangles c l b;
+      simplices = built-simplices c l b;
+      lie = built-lie c l b;
+      holders = built-tri-to-pents c l b;
+      edges-found = λ r s m k. subst (λ (keys : List (List ℕ)). List·Memᴰ s keys) (sym (built-edges c l b)) (edge-of-triangle ps (built-sorted c l b) (subst (λ (ts : List (List ℕ)). List·Memᴰ r ts) (built-triangles c l b) m) k);
+    }
+
+-- ---- what the other checks say
+
+pub lengths-passed : (c : Counts) (n : ℕ) (others : Outcome) → lengthsCheckOf c n others ≡ Done → (n ≡ c .edges) × (others ≡ Done)
+unfolding lengthsCheckOf
+lengths-passed c n others h =
+    let s = cond-done (not (eqb n (c .edges))) LengthCount others h in
+    (eqb-true n (c .edges) (not-false (eqb n (c .edges)) (s .0)), s .1)
+
+pub room-passed : (short : Bool) → roomCheckOf short ≡ Done → short ≡ false
+unfolding roomCheckOf
+room-passed short h = cond-done short ShortRoom Done h .0
+
+-- an outcome is not both
+done-not-refused : {r : Refusal} → Done ≡ Refused r → ⊥
+done-not-refused e = let z : _≡_ {A = ℕ} 0 1 = cc in omega arith
+
+pub triangle-passed : (c : Counts) (t : ℕ) → triangleCheckOf c t ≡ Done → t < c .triangles
+unfolding triangleCheckOf
+triangle-passed c t h = ltb-true t (c .triangles) (go (ltb t (c .triangles)) h)
+  where
+    go : (b : Bool) → cond b Done (Refused BadIndex) ≡ Done → b ≡ true
+    go true e = refl
+    go false e = absurd (done-not-refused (sym e))
+
+-- ---- the check of the complex, with two lists of scratch that have room for any
+
+module _ (c : Counts) (l : Lists) (m : ℕ) (large : m ≡ 81920) (pe pt : List ℕ) (es : pe ≡ replicate m 0) (ts : pt ≡ replicate m 0) (r : Outcome) (pe′ pt′ : List ℕ) (k : Checked c l pe pt r pe′ pt′) where
+  -- 7 is all that it refuses
+  seven : checkedOf c l (length pe) (length pt) ≡ builtCheckOf c l Done
+  unfolding checkedOf builtCheckOf
+  seven = go (isBuilt c l) refl
+    where
+      room : isBuilt c l ≡ true → (ltb (length pe) (10 * c .pentachorons) ≡ false) × (ltb (length pt) (10 * c .pentachorons) ≡ false)
+      room h =
+          let b = said (built-says c l) h in (
+            le-ltb (length pe) (10 * c .pentachorons) (omega (arith, ap length es, length-replicate {A = ℕ} m 0, b .few)),
+            le-ltb (length pt) (10 * c .pentachorons) (omega (arith, ap length ts, length-replicate {A = ℕ} m 0, b .few)),
+          )
+
+      go : (b : Bool) → isBuilt c l ≡ b
+          → cond (not (isBuilt c l)) (Refused NotBuilt) (cond (ltb (length pe) (10 * c .pentachorons) || ltb (length pt) (10 * c .pentachorons)) (Refused ShortRoom) Done)
+          ≡ cond (not (isBuilt c l)) (Refused NotBuilt) Done
+      go true h = let s = room h in rw (h, s .0, s .1) refl
+      go false h = rw h refl
+
+  -- it refuses what is not built
+  pub not-built : (x : Refusal) (others : Outcome) → r ≡ Refused x → builtCheckOf c l others ≡ Refused x
+  unfolding builtCheckOf
+  not-built x others e = go (isBuilt c l) (sym seven ∙ sym (k .answered) ∙ e)
+    where
+      go : (b : Bool) → cond (not b) (Refused NotBuilt) Done ≡ Refused x → cond (not b) (Refused NotBuilt) others ≡ Refused x
+      go true h = absurd (done-not-refused h)
+      go false h = h
+
+  is-built : r ≡ Done → isBuilt c l ≡ true
+  unfolding builtCheckOf
+  is-built e = not-false (isBuilt c l) (cond-done (not (isBuilt c l)) NotBuilt Done (sym seven ∙ sym (k .answered) ∙ e) .0)
+
+  -- what passes is built, and its numbers are noted
+  pub built-with : r ≡ Done → BuiltWith c l pe′ pt′
+  built-with e =
+      record {
+        built = is-built e;
+        noted = record {
+          edges = begins-over (numbersOf Edge (pentsIn c (l .pents))) pe pe′ (k .edges ∙ ap (λ (o : Outcome). writtenAfter o (numbersOf Edge (pentsIn c (l .pents))) pe) e);
+          triangles = begins-over (numbersOf Triangle (pentsIn c (l .pents))) pt pt′ (k .triangles ∙ ap (λ (o : Outcome). writtenAfter o (numbersOf Triangle (pentsIn c (l .pents))) pt) e);
+        };
+      }
+
+  -- then the other checks decide
+  pub others-decide : (others : Outcome) → r ≡ Done → builtCheckOf c l others ≡ others
+  unfolding builtCheckOf
+  others-decide others e = rw (is-built e) refl

@@ -1,0 +1,100 @@
+-- Triangles in the gradient: one whose area is below the limit adds nothing, one whose squared area is a NaN adds a NaN at each of its edges. Assumes nothing.
+use Prim.Native.Nat.{ℕ, _<_}
+use mathlib.Core.Path.{_≡_, refl, sym, ap, _∙_, subst}
+use mathlib.Core.Logic.{⊎-elim}
+use mathlib.Core.Bool.{Bool, true, false, not, cond}
+use mathlib.Core.List.{List, [], _∷_, _++_, map, foldl, List·Memᴰ, List·Memᴰ·head, List·Memᴰ·tail, List·Memᴰ·cases-cons, List·Memᴰ·not-nil, Memᴰ·map}
+use native.Mathlib.Omega.{arith}
+use lib.ListN.{length, getD, replicate, length-replicate}
+use lib.Ieee.{Float, nan, inf, fin, ofBits, neg, add, mul, div, lt, le}
+use Rattle.floats.specs.Ops.{_⊕_, zero}
+use Rattle.floats.specs.Methods.{absOf}
+use Rattle.root.specs.Root.{rootOf}
+use Rattle.lists.specs.Lists.{keep, gather, upto}
+use Rattle.lists.specs.Loops.{scatter, hits}
+use Rattle.lists.proofs.Tests.{Says, pass, fail, eqb-says}
+use Rattle.lists.proofs.Elements.{gather-mem, upto-mem}
+use Rattle.lists.proofs.Loops.{scatter-at}
+use Rattle.lorentzian.specs.Triangle.{areaSqGrad}
+use Rattle.lorentzian_regge.specs.Hinges.{FaceLists}
+use Rattle.lorentzian_regge.specs.Action.{edgesAt, triLengths, areaSqOf, absArea, areaLimit, factorOf, pullOf, three, pullsOf, pulls, gradientOf}
+
+-- ---- below the limit
+
+pub skipped-adds-nothing : (F : FaceLists) (ls ds : List Float) (t : ℕ) → lt (absArea (triLengths F ls t)) areaLimit ≡ true → pulls F ls ds t ≡ []
+unfolding pulls pullsOf
+skipped-adds-nothing F ls ds t e = rw e refl
+
+-- elements from which nothing is gathered may be left out
+gather-rest : {A B : Type 0} (f : A → List B) (q : A → Bool) → ((x : A) → q x ≡ true → f x ≡ []) → (xs : List A) → gather f xs ≡ gather f (keep (λ x. not (q x)) xs)
+unfolding gather keep
+gather-rest f q none [] = refl
+gather-rest {A} {B} f q none (x ∷ xs) = go (q x) (none x) (gather-rest f q none xs)
+  where
+    go : (b : Bool) → (b ≡ true → f x ≡ []) → gather f xs ≡ gather f (keep (λ x. not (q x)) xs)
+        → f x ++ gather f xs ≡ gather f (cond (not b) (x ∷ keep (λ x. not (q x)) xs) (keep (λ x. not (q x)) xs))
+    go true n r = ap (λ (l : List B). l ++ gather f xs) (n refl) ∙ r
+    go false n r = ap (λ (l : List B). f x ++ l) r
+
+-- triangles below the limit add nothing to the gradient
+pub gradient-skips : (F : FaceLists) (ls ds : List Float) → gradientOf F ls ds ≡ scatter nan _⊕_ (gather (pulls F ls ds) (keep (λ t. not (lt (absArea (triLengths F ls t)) areaLimit)) (upto (length (F .triangles))))) (replicate (length (F .edges)) zero)
+unfolding gradientOf
+gradient-skips F ls ds =
+    ap (λ (es : List (ℕ × Float)). scatter nan _⊕_ es (replicate (length (F .edges)) zero))
+    (gather-rest (pulls F ls ds) (λ t. lt (absArea (triLengths F ls t)) areaLimit) (skipped-adds-nothing F ls ds) (upto (length (F .triangles))))
+
+-- ---- a NaN
+
+-- a triangle whose squared area is a NaN is not skipped
+pub nan-not-skipped : (F : FaceLists) (ls ds : List Float) (t : ℕ) → areaSqOf (triLengths F ls t) ≡ nan → pulls F ls ds t ≡ three (edgesAt F t) (nan ∷ nan ∷ nan ∷ [])
+unfolding pulls pullsOf pullOf factorOf absArea areaSqGrad rootOf absOf ofBits neg mul div le
+nan-not-skipped F ls ds t e = rw e refl
+
+add-nan : (x : Float) → x ⊕ nan ≡ nan
+unfolding add
+add-nan nan = refl
+add-nan (inf s) = refl
+add-nan (fin s m e) = refl
+
+-- a sum that began with a NaN
+sum-from-nan : (xs : List Float) → foldl _⊕_ nan xs ≡ nan
+unfolding add
+sum-from-nan [] = refl
+sum-from-nan (x ∷ xs) = sum-from-nan xs
+
+-- a sum with a NaN in it
+sum-with-nan : (x : Float) (xs : List Float) → List·Memᴰ nan xs → foldl _⊕_ x xs ≡ nan
+sum-with-nan x [] m = absurd (List·Memᴰ·not-nil m)
+sum-with-nan x (y ∷ xs) m =
+    ⊎-elim
+    (λ e. ap (λ (z : Float). foldl _⊕_ (x ⊕ z) xs) (sym e) ∙ ap (λ (z : Float). foldl _⊕_ z xs) (add-nan x) ∙ sum-from-nan xs)
+    (sum-with-nan (x ⊕ y) xs)
+    (List·Memᴰ·cases-cons m)
+
+-- an event's value is among those of its place
+hits-has : {X : Type 0} (j : ℕ) (es : List (ℕ × X)) {x : X} → List·Memᴰ (j, x) es → List·Memᴰ x (hits j es)
+unfolding hits
+hits-has j [] m = absurd (List·Memᴰ·not-nil m)
+hits-has {X} j (a ∷ es) {x} m = go (eqb-says (a .0) j) (hits-has j es)
+  where
+    go : {b : Bool} → Says (a .0 ≡ j) b → (List·Memᴰ (j, x) es → List·Memᴰ x (hits j es)) → List·Memᴰ x (cond b (a .1 ∷ hits j es) (hits j es))
+    go (pass p) r = ⊎-elim (λ e. List·Memᴰ·head (ap (λ (c : ℕ × X). c .1) e)) (λ k. List·Memᴰ·tail (r k)) (List·Memᴰ·cases-cons m)
+    go (fail f) r = ⊎-elim (λ e. absurd (f (sym (ap (λ (c : ℕ × X). c .0) e)))) r (List·Memᴰ·cases-cons m)
+
+three-nans : (es : List ℕ) → length es ≡ 3 → three es (nan ∷ nan ∷ nan ∷ []) ≡ map (λ e. (e, nan)) es
+three-nans (a ∷ b ∷ c ∷ []) h = refl
+three-nans [] h = absurd (omega arith)
+three-nans (a ∷ []) h = absurd (omega arith)
+three-nans (a ∷ b ∷ []) h = absurd (omega arith)
+three-nans (a ∷ b ∷ c ∷ d ∷ es) h = absurd (omega arith)
+
+-- the gradient is a NaN at each edge of such a triangle
+pub nan-entry : (F : FaceLists) (ls ds : List Float) (t : ℕ) → areaSqOf (triLengths F ls t) ≡ nan → t < length (F .triangles) → length (edgesAt F t) ≡ 3
+    → (e : ℕ) → List·Memᴰ e (edgesAt F t) → e < length (F .edges) → getD (gradientOf F ls ds) e nan ≡ nan
+unfolding gradientOf
+nan-entry F ls ds t a h l e m k =
+    let events : List (ℕ × Float) = gather (pulls F ls ds) (upto (length (F .triangles))) in
+    let own : pulls F ls ds t ≡ map (λ e. (e, nan)) (edgesAt F t) = nan-not-skipped F ls ds t a ∙ three-nans (edgesAt F t) l in
+    let n : List·Memᴰ (e, nan) (pulls F ls ds t) = subst (λ (es : List (ℕ × Float)). List·Memᴰ (e, nan) es) (sym own) (Memᴰ·map (λ (e : ℕ). (e, nan)) m) in
+    scatter-at nan _⊕_ events (replicate (length (F .edges)) zero) e (rw length-replicate k)
+    ∙ sum-with-nan _ (hits e events) (hits-has e events (gather-mem (pulls F ls ds) (upto-mem (length (F .triangles)) t h) n))

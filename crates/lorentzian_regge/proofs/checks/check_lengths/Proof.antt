@@ -1,0 +1,17 @@
+-- `lorentzian_regge::checks::check_lengths` meets its contract. Assumes nothing.
+use mathlib.Core.Path.{refl}
+use borrow.Author.Tests.{eq-eqb, ne-eqb}
+use Rattle.lorentzian_regge.specs.Calls.{lengthsCheckOf}
+use Rattle.lorentzian_regge.proofs.checks.check_lengths.Statement.{statement}
+use Rattle.lorentzian_regge.proofs.checks.check_lengths.Tie as tie
+
+returns : tie.Need-returns
+unfolding lengthsCheckOf
+returns c = rw (ne-eqb _ _ (c .if1 .taken)) refl
+
+returns-2 : tie.Need-returns-2
+unfolding lengthsCheckOf
+returns-2 c = rw (eq-eqb _ _ (c .if1 .left)) refl
+
+pub check-lengths-spec : {M : Type 1} → statement M
+check-lengths-spec = tie.close (tie.spec returns returns-2)

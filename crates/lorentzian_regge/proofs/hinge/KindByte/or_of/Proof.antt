@@ -1,0 +1,26 @@
+-- `lorentzian_regge::hinge::KindByte::or_of` meets its contract. Assumes nothing.
+use mathlib.Core.Path.{refl}
+use borrow.Author.Needs.{needs}
+use Rattle.lorentzian_regge.specs.Hinges.{first}
+use Rattle.lorentzian_regge.proofs.hinge.KindByte.or_of.Statement.{statement}
+use Rattle.lorentzian_regge.proofs.hinge.KindByte.or_of.Tie as tie
+
+enum-known-self : tie.Need-enum-known-self
+enum-known-self c = search needs
+
+enum-told : tie.Need-enum-told
+enum-told c = search needs
+
+kind-requires : tie.Need-kind-requires
+kind-requires c κs = search needs
+
+returns : tie.Need-returns
+unfolding first
+returns c = rw (c .before .self .given .1) refl
+
+returns-2 : tie.Need-returns-2
+unfolding first
+returns-2 c = rw (c .before .enum-told .given .1, c .kind .ensures) refl
+
+pub or-of-spec : {M : Type 1} → statement M
+or-of-spec = tie.close (tie.spec enum-known-self enum-told kind-requires returns returns-2)

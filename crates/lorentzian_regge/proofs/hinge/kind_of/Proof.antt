@@ -1,0 +1,25 @@
+-- `lorentzian_regge::hinge::kind_of` meets its contract. Assumes nothing.
+use Prim.Native.Nat.{ℕ, zero, suc}
+use mathlib.Core.Path.{_≡_, refl, sym}
+use Rattle.lorentzian_regge.specs.declared.hinge.KindByte.the-variants.{NoKind}
+use Rattle.lorentzian_regge.specs.Hinges.{kindIn}
+use Rattle.lorentzian_regge.proofs.hinge.kind_of.Statement.{statement}
+use Rattle.lorentzian_regge.proofs.hinge.kind_of.Tie as tie
+
+-- a byte that is neither 0 nor 1 is no kind
+no-kind : (n : ℕ) → (n ≡ 0 → ⊥) → (n ≡ 1 → ⊥) → kindIn n ≡ NoKind
+no-kind zero f g = absurd (f refl)
+no-kind (suc zero) f g = absurd (g refl)
+no-kind (suc (suc n)) f g = refl
+
+returns : tie.Need-returns
+returns c = rw (c .match .keys1) refl
+
+returns-2 : tie.Need-returns-2
+returns-2 c = rw (c .match .keys2) refl
+
+returns-3 : tie.Need-returns-3
+returns-3 c = sym (no-kind (c .before .args .byte) (c .match .rest .0 .1) (c .match .rest .1))
+
+pub kind-of-spec : {M : Type 1} → statement M
+kind-of-spec = tie.close (tie.spec returns returns-2 returns-3)

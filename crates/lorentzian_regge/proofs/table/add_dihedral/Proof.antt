@@ -1,0 +1,65 @@
+-- `lorentzian_regge::table::add_dihedral` meets its contract. Assumes nothing.
+use mathlib.Core.Path.{refl}
+use borrow.Author.Needs.{needs}
+use Rattle.lorentzian_regge.specs.Hinges.{plus}
+use Rattle.lorentzian_regge.specs.Parts.{firstByte}
+use Rattle.lorentzian_regge.proofs.table.add_dihedral.Statement.{statement}
+use Rattle.lorentzian_regge.proofs.table.add_dihedral.Tie as tie
+
+cast-t : tie.Need-cast-t
+cast-t c = search needs
+
+value-requires : tie.Need-value-requires
+value-requires c κs = search needs
+
+mul-sums : tie.Need-mul-sums
+mul-sums c = search needs
+
+slice-read-sums : tie.Need-slice-read-sums
+slice-read-sums c = search needs
+
+slice-write-sums : tie.Need-slice-write-sums
+slice-write-sums c = search needs
+
+slice-read-kind-of : tie.Need-slice-read-kind-of
+slice-read-kind-of c = search needs
+
+kind-of-requires : tie.Need-kind-of-requires
+kind-of-requires c κs = search needs
+
+or-of-requires : tie.Need-or-of-requires
+or-of-requires c κs = search needs
+
+byte-requires : tie.Need-byte-requires
+byte-requires c κs = search needs
+
+slice-write-kinds : tie.Need-slice-write-kinds
+slice-write-kinds c = search needs
+
+same-length : tie.Need-same-length
+same-length c = search needs
+
+same-length-2 : tie.Need-same-length-2
+same-length-2 c = search needs
+
+returns : tie.Need-returns
+unfolding plus firstByte
+returns c = (rw (c .before .before .before .before .before .value .ensures) refl, rw (c .byte .ensures, c .before .or-of .ensures, c .before .before .kind-of .ensures) refl)
+
+pub add-dihedral-spec : {M : Type 1} → statement M
+add-dihedral-spec =
+    tie.close
+    (tie.spec
+    cast-t
+    value-requires
+    mul-sums
+    slice-read-sums
+    slice-write-sums
+    slice-read-kind-of
+    kind-of-requires
+    or-of-requires
+    byte-requires
+    slice-write-kinds
+    same-length
+    same-length-2
+    returns)

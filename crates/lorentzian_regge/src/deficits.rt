@@ -1,0 +1,351 @@
+// The deficits of all triangles, and of one.
+use crate::checks::check_lengths;
+use crate::checks::check_room;
+use crate::checks::check_triangle;
+use crate::dihedrals::dihedral_at;
+use crate::dihedrals::pent_sq_lengths;
+use crate::hinge::Hinge;
+use crate::hinge::KindByte;
+use crate::hinge::closed;
+use crate::table::write_table;
+use complex::Counts;
+use complex::PentachoronNumber;
+use complex::TriangleNumber;
+use complex::check_built;
+use complex::opposite_local_indices;
+use complex::pent_edge_indices;
+use complex::pents_of_triangle;
+use lorentzian::Dihedral;
+use refusals::Outcome;
+use refusals::Refusal;
+ghost use mathlib.Core.Path.{_≡_};
+ghost use mathlib.Core.Bool.{true};
+ghost use mathlib.Core.List.{[]};
+ghost use Prim.Native.Nat.{_<_};
+ghost use lib.ListN.{length, getD};
+ghost use Rattle.lists.specs.Lists.{within};
+ghost use Rattle.complex.specs.Builder.{lists};
+ghost use Rattle.complex.specs.Check.{pentsIn, trianglesIn};
+ghost use Rattle.lorentzian_regge.specs.Hinges.{facesIn, hinges, hingeIn, dihedralIn};
+ghost use Rattle.lorentzian_regge.specs.Calls.{BuiltWith, lengthsCheckOf, builtCheckOf, roomCheckOf, triangleCheckOf, shortTable, hingeBy, hingeNumber, hingeOr, Tabled};
+ghost use Rattle.lorentzian_regge.specs.Parts.{Measured};
+
+// ---- all triangles
+
+// `lorentzian_deficit_angles` of a built complex: deficits, and kinds as bytes. A refused call leaves both lists as they were;
+// otherwise the places that are not written are kept.
+pub fn lorentzian_deficit_angles_built<'a>(
+    counts: Counts,
+    pents: &'a [u32],
+    edges: &'a [u32],
+    triangles: &'a [u32],
+    tets: &'a [u32],
+    tri_to_pents_items: &'a [u32],
+    tri_to_pents_starts: &'a [u32],
+    edge_to_tris_items: &'a [u32],
+    edge_to_tris_starts: &'a [u32],
+    edge_to_pents_items: &'a [u32],
+    edge_to_pents_starts: &'a [u32],
+    pent_edges: &'a [u32],
+    pent_tris: &'a [u32],
+    sq_lengths: &'a [f64],
+    deficits: &mut [f64],
+    kinds: &mut [u8],
+) -> Outcome
+    requires { ⌜ BuiltWith counts (lists (now pents) (now edges) (now triangles) (now tets)
+        (now «tri_to_pents_items») (now «tri_to_pents_starts») (now «edge_to_tris_items») (now «edge_to_tris_starts»)
+        (now «edge_to_pents_items») (now «edge_to_pents_starts»))
+        (now «pent_edges») (now «pent_tris») ⌝ }
+    ensures { λ r. ⌜ Tabled (lengthsCheckOf counts (length (now («sq_lengths» .entry))) (roomCheckOf (shortTable counts (length (now (deficits .entry))) (length (now (kinds .entry))))))
+        (facesIn counts (now (pents .entry)) (now (edges .entry)) (now (triangles .entry))) (now («sq_lengths» .entry)) (now (deficits .entry)) (now (kinds .entry)) r (now (deficits .exit)) (now (kinds .exit)) ⌝ }
+{
+    let short = (deficits.len() < counts.triangles) | (kinds.len() < counts.triangles);
+    match check_lengths(counts, sq_lengths.len(), check_room(short)) {
+        Outcome::Refused(refusal) => Outcome::Refused(refusal),
+        Outcome::Done => {
+            write_table(
+                counts,
+                pents,
+                edges,
+                triangles,
+                pent_edges,
+                pent_tris,
+                sq_lengths,
+                deficits,
+                kinds,
+            );
+            Outcome::Done
+        }
+    }
+}
+
+// `lorentzian_deficit_angles`: the deficit of each triangle, and its kind as a byte. A refused call leaves both lists as they were;
+// otherwise the places that are not written are kept.
+pub fn lorentzian_deficit_angles<'a>(
+    counts: Counts,
+    pents: &'a [u32],
+    edges: &'a [u32],
+    triangles: &'a [u32],
+    tets: &'a [u32],
+    tri_to_pents_items: &'a [u32],
+    tri_to_pents_starts: &'a [u32],
+    edge_to_tris_items: &'a [u32],
+    edge_to_tris_starts: &'a [u32],
+    edge_to_pents_items: &'a [u32],
+    edge_to_pents_starts: &'a [u32],
+    sq_lengths: &'a [f64],
+    deficits: &mut [f64],
+    kinds: &mut [u8],
+) -> Outcome
+    ensures { λ r. ⌜ Tabled (builtCheckOf counts (lists (now (pents .entry)) (now (edges .entry)) (now (triangles .entry)) (now (tets .entry))
+        (now («tri_to_pents_items» .entry)) (now («tri_to_pents_starts» .entry)) (now («edge_to_tris_items» .entry)) (now («edge_to_tris_starts» .entry))
+        (now («edge_to_pents_items» .entry)) (now («edge_to_pents_starts» .entry)))
+        (lengthsCheckOf counts (length (now («sq_lengths» .entry))) (roomCheckOf (shortTable counts (length (now (deficits .entry))) (length (now (kinds .entry)))))))
+        (facesIn counts (now (pents .entry)) (now (edges .entry)) (now (triangles .entry))) (now («sq_lengths» .entry)) (now (deficits .entry)) (now (kinds .entry)) r (now (deficits .exit)) (now (kinds .exit)) ⌝ }
+{
+    let mut pent_edges = [0u32; 81920];
+    let mut pent_tris = [0u32; 81920];
+    match check_built(
+        counts,
+        pents,
+        edges,
+        triangles,
+        tets,
+        tri_to_pents_items,
+        tri_to_pents_starts,
+        edge_to_tris_items,
+        edge_to_tris_starts,
+        edge_to_pents_items,
+        edge_to_pents_starts,
+        &mut pent_edges,
+        &mut pent_tris,
+    ) {
+        Outcome::Refused(refusal) => Outcome::Refused(refusal),
+        Outcome::Done => lorentzian_deficit_angles_built(
+            counts,
+            pents,
+            edges,
+            triangles,
+            tets,
+            tri_to_pents_items,
+            tri_to_pents_starts,
+            edge_to_tris_items,
+            edge_to_tris_starts,
+            edge_to_pents_items,
+            edge_to_pents_starts,
+            &pent_edges,
+            &pent_tris,
+            sq_lengths,
+            deficits,
+            kinds,
+        ),
+    }
+}
+
+// ---- one triangle
+
+// A hinge, or why there is none.
+pub enum HingeAnswer {
+    Done(Hinge),
+    Refused(Refusal),
+}
+
+impl HingeAnswer {
+    // The refusal's number, 0 for an answer.
+    pub fn number(self) -> u32
+        ensures { λ r. ⌜ r ≡ hingeNumber self ⌝ }
+    {
+        match self {
+            HingeAnswer::Done(_) => 0,
+            HingeAnswer::Refused(refusal) => refusal.number(),
+        }
+    }
+
+    // The hinge, or another for a refusal.
+    pub fn hinge_or(self, other: Hinge) -> Hinge
+        ensures { λ r. ⌜ r ≡ hingeOr self other ⌝ }
+    {
+        match self {
+            HingeAnswer::Done(hinge) => hinge,
+            HingeAnswer::Refused(_) => other,
+        }
+    }
+}
+
+// The dihedral of a triangle in a pentachoron in which it lies.
+fn dihedral_in<'a>(
+    counts: Counts,
+    pents: &'a [u32],
+    edges: &'a [u32],
+    triangles: &'a [u32],
+    tri_to_pents_items: &'a [u32],
+    tri_to_pents_starts: &'a [u32],
+    pent_edges: &'a [u32],
+    pent_tris: &'a [u32],
+    sq_lengths: &'a [f64],
+    pent: PentachoronNumber,
+    tri: TriangleNumber,
+) -> Dihedral
+    requires { ⌜ Measured counts (now pents) (now edges) (now triangles) (now «tri_to_pents_items») (now «tri_to_pents_starts») (now «pent_edges») (now «pent_tris») (length (now «sq_lengths»))
+        × (pent .0 < counts .pentachorons) × (tri .0 < counts .triangles)
+        × (within (getD (trianglesIn counts (now triangles)) (tri .0) []) (getD (pentsIn counts (now pents)) (pent .0) []) ≡ true) ⌝ }
+    ensures { λ r. ⌜ r ≡ dihedralIn (facesIn counts (now (pents .entry)) (now (edges .entry)) (now (triangles .entry))) (now («sq_lengths» .entry)) (getD (trianglesIn counts (now (triangles .entry))) (tri .0) []) (pent .0) ⌝ }
+{
+    let own = pent_edge_indices(counts, pents, edges, pent_edges, pent);
+    let s = pent_sq_lengths(own, sq_lengths);
+    dihedral_at(
+        &s,
+        opposite_local_indices(counts, pents, triangles, pent_tris, pent, tri),
+    )
+}
+
+// The hinge of a triangle, from all pentachorons in which it lies.
+fn hinge_at<'a>(
+    counts: Counts,
+    pents: &'a [u32],
+    edges: &'a [u32],
+    triangles: &'a [u32],
+    tri_to_pents_items: &'a [u32],
+    tri_to_pents_starts: &'a [u32],
+    pent_edges: &'a [u32],
+    pent_tris: &'a [u32],
+    sq_lengths: &'a [f64],
+    tri: TriangleNumber,
+) -> Hinge
+    requires { ⌜ Measured counts (now pents) (now edges) (now triangles) (now «tri_to_pents_items») (now «tri_to_pents_starts») (now «pent_edges») (now «pent_tris») (length (now «sq_lengths»))
+        × (tri .0 < counts .triangles) ⌝ }
+    ensures { λ r. ⌜ r ≡ hingeIn (hinges (facesIn counts (now (pents .entry)) (now (edges .entry)) (now (triangles .entry))) (now («sq_lengths» .entry))) (tri .0) ⌝ }
+{
+    let holders = pents_of_triangle(
+        counts,
+        pents,
+        triangles,
+        tri_to_pents_items,
+        tri_to_pents_starts,
+        tri,
+    );
+    let mut sum = 0.0;
+    let mut kind = KindByte::NoKind;
+    let mut k = 0;
+    while k < holders.len() {
+        let dihedral = dihedral_in(
+            counts,
+            pents,
+            edges,
+            triangles,
+            tri_to_pents_items,
+            tri_to_pents_starts,
+            pent_edges,
+            pent_tris,
+            sq_lengths,
+            PentachoronNumber(holders[k]),
+            tri,
+        );
+        sum += dihedral.value();
+        kind = kind.or_of(dihedral);
+        k += 1;
+    }
+    closed(kind, sum)
+}
+
+// The hinge of one triangle of a built complex. Refused with 11 where there is no triangle of that number.
+pub fn lorentzian_deficit_angle_built<'a>(
+    counts: Counts,
+    pents: &'a [u32],
+    edges: &'a [u32],
+    triangles: &'a [u32],
+    tets: &'a [u32],
+    tri_to_pents_items: &'a [u32],
+    tri_to_pents_starts: &'a [u32],
+    edge_to_tris_items: &'a [u32],
+    edge_to_tris_starts: &'a [u32],
+    edge_to_pents_items: &'a [u32],
+    edge_to_pents_starts: &'a [u32],
+    pent_edges: &'a [u32],
+    pent_tris: &'a [u32],
+    sq_lengths: &'a [f64],
+    tri: TriangleNumber,
+) -> HingeAnswer
+    requires { ⌜ BuiltWith counts (lists (now pents) (now edges) (now triangles) (now tets)
+        (now «tri_to_pents_items») (now «tri_to_pents_starts») (now «edge_to_tris_items») (now «edge_to_tris_starts»)
+        (now «edge_to_pents_items») (now «edge_to_pents_starts»))
+        (now «pent_edges») (now «pent_tris») ⌝ }
+    ensures { λ r. ⌜ r ≡ hingeBy (lengthsCheckOf counts (length (now («sq_lengths» .entry))) (triangleCheckOf counts (tri .0)))
+        (hingeIn (hinges (facesIn counts (now (pents .entry)) (now (edges .entry)) (now (triangles .entry))) (now («sq_lengths» .entry))) (tri .0)) ⌝ }
+{
+    match check_lengths(counts, sq_lengths.len(), check_triangle(counts, tri)) {
+        Outcome::Refused(refusal) => HingeAnswer::Refused(refusal),
+        Outcome::Done => HingeAnswer::Done(hinge_at(
+            counts,
+            pents,
+            edges,
+            triangles,
+            tri_to_pents_items,
+            tri_to_pents_starts,
+            pent_edges,
+            pent_tris,
+            sq_lengths,
+            tri,
+        )),
+    }
+}
+
+// The hinge of one triangle: its record in the table of all. Refused with 11 where there is no triangle of that number.
+pub fn lorentzian_deficit_angle<'a>(
+    counts: Counts,
+    pents: &'a [u32],
+    edges: &'a [u32],
+    triangles: &'a [u32],
+    tets: &'a [u32],
+    tri_to_pents_items: &'a [u32],
+    tri_to_pents_starts: &'a [u32],
+    edge_to_tris_items: &'a [u32],
+    edge_to_tris_starts: &'a [u32],
+    edge_to_pents_items: &'a [u32],
+    edge_to_pents_starts: &'a [u32],
+    sq_lengths: &'a [f64],
+    tri: TriangleNumber,
+) -> HingeAnswer
+    ensures { λ r. ⌜ r ≡ hingeBy (builtCheckOf counts (lists (now (pents .entry)) (now (edges .entry)) (now (triangles .entry)) (now (tets .entry))
+        (now («tri_to_pents_items» .entry)) (now («tri_to_pents_starts» .entry)) (now («edge_to_tris_items» .entry)) (now («edge_to_tris_starts» .entry))
+        (now («edge_to_pents_items» .entry)) (now («edge_to_pents_starts» .entry)))
+        (lengthsCheckOf counts (length (now («sq_lengths» .entry))) (triangleCheckOf counts (tri .0))))
+        (hingeIn (hinges (facesIn counts (now (pents .entry)) (now (edges .entry)) (now (triangles .entry))) (now («sq_lengths» .entry))) (tri .0)) ⌝ }
+{
+    let mut pent_edges = [0u32; 81920];
+    let mut pent_tris = [0u32; 81920];
+    match check_built(
+        counts,
+        pents,
+        edges,
+        triangles,
+        tets,
+        tri_to_pents_items,
+        tri_to_pents_starts,
+        edge_to_tris_items,
+        edge_to_tris_starts,
+        edge_to_pents_items,
+        edge_to_pents_starts,
+        &mut pent_edges,
+        &mut pent_tris,
+    ) {
+        Outcome::Refused(refusal) => HingeAnswer::Refused(refusal),
+        Outcome::Done => lorentzian_deficit_angle_built(
+            counts,
+            pents,
+            edges,
+            triangles,
+            tets,
+            tri_to_pents_items,
+            tri_to_pents_starts,
+            edge_to_tris_items,
+            edge_to_tris_starts,
+            edge_to_pents_items,
+            edge_to_pents_starts,
+            &pent_edges,
+            &pent_tris,
+            sq_lengths,
+            tri,
+        ),
+    }
+}

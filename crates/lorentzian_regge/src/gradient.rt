@@ -1,0 +1,227 @@
+// The gradient of the action by the squared lengths.
+use crate::area::abs_area;
+use crate::area::tri_sq_lengths;
+use crate::checks::check_lengths;
+use crate::checks::check_room;
+use crate::table::write_table;
+use crate::table::zero_all;
+use complex::Counts;
+use complex::TriangleEdges;
+use complex::TriangleNumber;
+use complex::check_built;
+use complex::tri_edge_indices;
+use lorentzian::triangle_area_sq_grad;
+use lorentzian::triangle_area_sq_lorentzian;
+use refusals::Outcome;
+ghost use mathlib.Core.Path.{_≡_};
+ghost use Prim.Native.Nat.{_≤_};
+ghost use lib.Ieee.{nan};
+ghost use lib.ListN.{length};
+ghost use Rattle.floats.specs.Ops.{_⊕_};
+ghost use Rattle.lists.specs.Lists.{gather, upto};
+ghost use Rattle.lists.specs.Groups.{Below};
+ghost use Rattle.lists.specs.Loops.{scatter};
+ghost use Rattle.complex.specs.Builder.{lists};
+ghost use Rattle.complex.specs.Incidence.{edgeList};
+ghost use Rattle.lorentzian_regge.specs.Hinges.{facesIn};
+ghost use Rattle.lorentzian_regge.specs.Action.{factorOf, pullOf, pullsOf, pulls};
+ghost use Rattle.lorentzian_regge.specs.Calls.{BuiltWith, lengthsCheckOf, builtCheckOf, roomCheckOf, shortGradient, Graded};
+ghost use Rattle.lorentzian_regge.specs.Parts.{Measured};
+
+// The sign of a squared area, over twice the area.
+fn factor_of(area_sq: f64, area: f64) -> f64
+    ensures { λ r. ⌜ r ≡ factorOf «area_sq» area ⌝ }
+{
+    let sign = if 0.0 <= area_sq { 1.0 } else { -1.0 };
+    sign / (2.0 * area)
+}
+
+// What a triangle adds at its three edges.
+fn pull_of(s: [f64; 3], deficit: f64) -> [f64; 3]
+    ensures { λ r. ⌜ r ≡ pullOf s deficit ⌝ }
+{
+    let factor = factor_of(triangle_area_sq_lorentzian(s[0], s[1], s[2]), abs_area(s));
+    let grad = triangle_area_sq_grad(s[0], s[1], s[2]);
+    [
+        factor * grad[0] * deficit,
+        factor * grad[1] * deficit,
+        factor * grad[2] * deficit,
+    ]
+}
+
+// The entries of a triangle's edges with what the triangle adds; an area below 1e-30 is skipped.
+fn add_pulls(edges: TriangleEdges, s: [f64; 3], deficit: f64, grad: &mut [f64])
+    requires { ⌜ Below (edgeList edges) (length (now grad)) ⌝ }
+    ensures { λ _. ⌜ now (grad .exit) ≡ scatter nan _⊕_ (pullsOf (edgeList edges) s deficit) (now (grad .entry)) ⌝ }
+{
+    if abs_area(s) < 1e-30 {
+        return;
+    }
+    let pull = pull_of(s, deficit);
+    grad[edges.0.0 as usize] += pull[0];
+    grad[edges.1.0 as usize] += pull[1];
+    grad[edges.2.0 as usize] += pull[2];
+}
+
+// What all triangles add, in their order.
+fn add_all<'a>(
+    counts: Counts,
+    pents: &'a [u32],
+    edges: &'a [u32],
+    triangles: &'a [u32],
+    tri_to_pents_items: &'a [u32],
+    tri_to_pents_starts: &'a [u32],
+    pent_edges: &'a [u32],
+    pent_tris: &'a [u32],
+    sq_lengths: &'a [f64],
+    deficits: &'a [f64],
+    grad: &mut [f64],
+)
+    requires { ⌜ Measured counts (now pents) (now edges) (now triangles) (now «tri_to_pents_items») (now «tri_to_pents_starts») (now «pent_edges») (now «pent_tris») (length (now «sq_lengths»))
+        × (counts .triangles ≤ length (now deficits)) × (counts .edges ≤ length (now grad)) ⌝ }
+    ensures { λ _. ⌜ now (grad .exit) ≡ scatter nan _⊕_ (gather (pulls (facesIn counts (now (pents .entry)) (now (edges .entry)) (now (triangles .entry))) (now («sq_lengths» .entry)) (now (deficits .entry))) (upto (counts .triangles))) (now (grad .entry)) ⌝ }
+{
+    let mut t = 0u32;
+    while (t as usize) < counts.triangles {
+        let own = tri_edge_indices(
+            counts,
+            pents,
+            edges,
+            triangles,
+            tri_to_pents_items,
+            tri_to_pents_starts,
+            pent_edges,
+            pent_tris,
+            TriangleNumber(t),
+        );
+        let s = tri_sq_lengths(own, sq_lengths);
+        add_pulls(own, s, deficits[t as usize], grad);
+        t += 1;
+    }
+}
+
+// `lorentzian_regge_action_grad` of a built complex. A refused call leaves the list as it was; otherwise the places that are not
+// written are kept.
+pub fn lorentzian_regge_action_grad_built<'a>(
+    counts: Counts,
+    pents: &'a [u32],
+    edges: &'a [u32],
+    triangles: &'a [u32],
+    tets: &'a [u32],
+    tri_to_pents_items: &'a [u32],
+    tri_to_pents_starts: &'a [u32],
+    edge_to_tris_items: &'a [u32],
+    edge_to_tris_starts: &'a [u32],
+    edge_to_pents_items: &'a [u32],
+    edge_to_pents_starts: &'a [u32],
+    pent_edges: &'a [u32],
+    pent_tris: &'a [u32],
+    sq_lengths: &'a [f64],
+    grad: &mut [f64],
+) -> Outcome
+    requires { ⌜ BuiltWith counts (lists (now pents) (now edges) (now triangles) (now tets)
+        (now «tri_to_pents_items») (now «tri_to_pents_starts») (now «edge_to_tris_items») (now «edge_to_tris_starts»)
+        (now «edge_to_pents_items») (now «edge_to_pents_starts»))
+        (now «pent_edges») (now «pent_tris») ⌝ }
+    ensures { λ r. ⌜ Graded (lengthsCheckOf counts (length (now («sq_lengths» .entry))) (roomCheckOf (shortGradient counts (length (now (grad .entry))))))
+        (facesIn counts (now (pents .entry)) (now (edges .entry)) (now (triangles .entry))) (now («sq_lengths» .entry)) (now (grad .entry)) r (now (grad .exit)) ⌝ }
+{
+    match check_lengths(
+        counts,
+        sq_lengths.len(),
+        check_room(grad.len() < counts.edges),
+    ) {
+        Outcome::Refused(refusal) => Outcome::Refused(refusal),
+        Outcome::Done => {
+            let mut deficits = [0.0; 81920];
+            let mut kinds = [0u8; 81920];
+            write_table(
+                counts,
+                pents,
+                edges,
+                triangles,
+                pent_edges,
+                pent_tris,
+                sq_lengths,
+                &mut deficits,
+                &mut kinds,
+            );
+            zero_all(counts.edges, grad);
+            add_all(
+                counts,
+                pents,
+                edges,
+                triangles,
+                tri_to_pents_items,
+                tri_to_pents_starts,
+                pent_edges,
+                pent_tris,
+                sq_lengths,
+                &deficits,
+                grad,
+            );
+            Outcome::Done
+        }
+    }
+}
+
+// `lorentzian_regge_action_grad`: the derivative of the action by the squared length of each edge. A refused call leaves the list
+// as it was; otherwise the places that are not written are kept.
+pub fn lorentzian_regge_action_grad<'a>(
+    counts: Counts,
+    pents: &'a [u32],
+    edges: &'a [u32],
+    triangles: &'a [u32],
+    tets: &'a [u32],
+    tri_to_pents_items: &'a [u32],
+    tri_to_pents_starts: &'a [u32],
+    edge_to_tris_items: &'a [u32],
+    edge_to_tris_starts: &'a [u32],
+    edge_to_pents_items: &'a [u32],
+    edge_to_pents_starts: &'a [u32],
+    sq_lengths: &'a [f64],
+    grad: &mut [f64],
+) -> Outcome
+    ensures { λ r. ⌜ Graded (builtCheckOf counts (lists (now (pents .entry)) (now (edges .entry)) (now (triangles .entry)) (now (tets .entry))
+        (now («tri_to_pents_items» .entry)) (now («tri_to_pents_starts» .entry)) (now («edge_to_tris_items» .entry)) (now («edge_to_tris_starts» .entry))
+        (now («edge_to_pents_items» .entry)) (now («edge_to_pents_starts» .entry)))
+        (lengthsCheckOf counts (length (now («sq_lengths» .entry))) (roomCheckOf (shortGradient counts (length (now (grad .entry)))))))
+        (facesIn counts (now (pents .entry)) (now (edges .entry)) (now (triangles .entry))) (now («sq_lengths» .entry)) (now (grad .entry)) r (now (grad .exit)) ⌝ }
+{
+    let mut pent_edges = [0u32; 81920];
+    let mut pent_tris = [0u32; 81920];
+    match check_built(
+        counts,
+        pents,
+        edges,
+        triangles,
+        tets,
+        tri_to_pents_items,
+        tri_to_pents_starts,
+        edge_to_tris_items,
+        edge_to_tris_starts,
+        edge_to_pents_items,
+        edge_to_pents_starts,
+        &mut pent_edges,
+        &mut pent_tris,
+    ) {
+        Outcome::Refused(refusal) => Outcome::Refused(refusal),
+        Outcome::Done => lorentzian_regge_action_grad_built(
+            counts,
+            pents,
+            edges,
+            triangles,
+            tets,
+            tri_to_pents_items,
+            tri_to_pents_starts,
+            edge_to_tris_items,
+            edge_to_tris_starts,
+            edge_to_pents_items,
+            edge_to_pents_starts,
+            &pent_edges,
+            &pent_tris,
+            sq_lengths,
+            grad,
+        ),
+    }
+}
