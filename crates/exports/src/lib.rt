@@ -1,4 +1,6 @@
 // The library's functions for C and Rust to call, on numbers and slices alone.
+mod hinges;
+
 use complex::Counts;
 use complex::check_built;
 use complex::from_pentachorons;
@@ -418,7 +420,7 @@ fn lattice_of(n_t: usize, n_s: usize) -> Lattice
 }
 
 // Five numbers as counts.
-fn counts_of(c: [usize; 5]) -> Counts
+pub fn counts_of(c: [usize; 5]) -> Counts
     ensures { λ r. ⌜ r ≡ countsOfList c ⌝ }
 {
     Counts {

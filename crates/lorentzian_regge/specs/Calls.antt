@@ -13,6 +13,7 @@ use Rattle.complex.specs.declared.Counts.{Counts}
 use Rattle.complex.specs.Builder.{Lists}
 use Rattle.complex.specs.Check.{pentsIn, isBuilt, writtenAfter}
 use Rattle.complex.specs.Parts.{Noted}
+use Rattle.lorentzian.specs.Dihedral.{kindNumber}
 use Rattle.lorentzian_regge.specs.declared.hinge.Hinge.{Hinge}
 use Rattle.lorentzian_regge.specs.declared.deficits.HingeAnswer.{HingeAnswer}
 use Rattle.lorentzian_regge.specs.declared.deficits.HingeAnswer.the-variants as HingeAnswer
@@ -68,6 +69,16 @@ hingeNumber (HingeAnswer.Refused r) = numberOf r
 abbrev pub hingeOr : HingeAnswer → Hinge → Hinge
 hingeOr (HingeAnswer.Done h) other = h
 hingeOr (HingeAnswer.Refused r) other = other
+
+-- its deficit, or another for a refusal
+abbrev pub deficitOr : HingeAnswer → Float → Float
+deficitOr (HingeAnswer.Done h) other = h .deficit
+deficitOr (HingeAnswer.Refused r) other = other
+
+-- the byte of its kind, or another for a refusal
+abbrev pub kindByteOr : HingeAnswer → ℕ → ℕ
+kindByteOr (HingeAnswer.Done h) other = kindNumber (h .kind)
+kindByteOr (HingeAnswer.Refused r) other = other
 
 -- the action, or the refusal
 abbrev pub actionBy : Outcome → Float → ActionAnswer

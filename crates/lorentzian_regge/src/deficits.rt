@@ -27,7 +27,7 @@ ghost use Rattle.lists.specs.Lists.{within};
 ghost use Rattle.complex.specs.Builder.{lists};
 ghost use Rattle.complex.specs.Check.{pentsIn, trianglesIn};
 ghost use Rattle.lorentzian_regge.specs.Hinges.{facesIn, hinges, hingeIn, dihedralIn};
-ghost use Rattle.lorentzian_regge.specs.Calls.{BuiltWith, lengthsCheckOf, builtCheckOf, roomCheckOf, triangleCheckOf, shortTable, hingeBy, hingeNumber, hingeOr, Tabled};
+ghost use Rattle.lorentzian_regge.specs.Calls.{BuiltWith, lengthsCheckOf, builtCheckOf, roomCheckOf, triangleCheckOf, shortTable, hingeBy, hingeNumber, hingeOr, deficitOr, kindByteOr, Tabled};
 ghost use Rattle.lorentzian_regge.specs.Parts.{Measured};
 
 // ---- all triangles
@@ -167,6 +167,29 @@ impl HingeAnswer {
     {
         match self {
             HingeAnswer::Done(hinge) => hinge,
+            HingeAnswer::Refused(_) => other,
+        }
+    }
+
+    // Its deficit, or another for a refusal.
+    pub fn deficit_or(self, other: f64) -> f64
+        ensures { λ r. ⌜ r ≡ deficitOr self other ⌝ }
+    {
+        match self {
+            HingeAnswer::Done(hinge) => hinge.deficit,
+            HingeAnswer::Refused(_) => other,
+        }
+    }
+
+    // The byte of its kind, or another for a refusal.
+    pub fn kind_or(self, other: u8) -> u8
+        ensures { λ r. ⌜ r ≡ kindByteOr self other ⌝ }
+    {
+        match self {
+            HingeAnswer::Done(hinge) => {
+                let kind = hinge.kind;
+                KindByte::Kind(kind).byte()
+            }
             HingeAnswer::Refused(_) => other,
         }
     }

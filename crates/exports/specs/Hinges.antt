@@ -1,0 +1,57 @@
+-- The calls on hinges as they are exported: refusals, counts and records in plain numbers. Definitions only.
+use Prim.Native.Nat.{ℕ}
+use mathlib.Core.Path.{_≡_}
+use mathlib.Core.List.{List, [], _∷_}
+use lib.ListN.{length}
+use lib.Ieee.{Float}
+use Rattle.refusals.specs.declared.Outcome.{Outcome}
+use Rattle.refusals.specs.declared.Outcome.the-variants.{Done}
+use Rattle.refusals.specs.Refusals.{outcomeNumber}
+use Rattle.complex.specs.Builder.{Lists}
+use Rattle.lorentzian_regge.specs.declared.signs.LengthSigns.{LengthSigns}
+use Rattle.lorentzian_regge.specs.declared.deficits.HingeAnswer.{HingeAnswer}
+use Rattle.lorentzian_regge.specs.declared.action.ActionAnswer.{ActionAnswer}
+use Rattle.lorentzian_regge.specs.Hinges.{FaceLists, facesIn, hinges, hingeIn}
+use Rattle.lorentzian_regge.specs.Action as Action
+use Rattle.lorentzian_regge.specs.Calls as Calls
+use Rattle.lorentzian_regge.specs.Calls.{lengthsCheckOf, builtCheckOf, roomCheckOf, triangleCheckOf, shortTable, shortGradient, hingeBy, hingeNumber, deficitOr, kindByteOr, actionBy, actionNumber, actionOr}
+use Rattle.exports.specs.Complexes.{countsOfList}
+
+-- the face lists of a complex with its counts in plain numbers
+abbrev pub facesOf : List ℕ → Lists → FaceLists
+facesOf counts l = facesIn (countsOfList counts) (l .pents) (l .edges) (l .triangles)
+
+-- what the checks say: 7, then 8, then the others
+abbrev pub checkOf : List ℕ → Lists → List Float → Outcome → Outcome
+checkOf counts l ls others = builtCheckOf (countsOfList counts) l (lengthsCheckOf (countsOfList counts) (length ls) others)
+
+-- all hinges: the answer as a number, and both lists after the call
+pub record Tabled (counts : List ℕ) (l : Lists) (ls ds : List Float) (ks : List ℕ) (r : ℕ) (ds′ : List Float) (ks′ : List ℕ) : Type 0 where
+  pub answer : Outcome
+  pub tabled : Calls.Tabled (checkOf counts l ls (roomCheckOf (shortTable (countsOfList counts) (length ds) (length ks)))) (facesOf counts l) ls ds ks answer ds′ ks′
+  pub numbered : r ≡ outcomeNumber answer
+
+-- one hinge: the answer as a number, and the deficit and the kind's byte after the call
+pub record HingeOf (counts : List ℕ) (l : Lists) (ls : List Float) (t : ℕ) (deficit : Float) (kind r : ℕ) (deficit′ : Float) (kind′ : ℕ) : Type 0 where
+  pub answer : HingeAnswer
+  pub answered : answer ≡ hingeBy (checkOf counts l ls (triangleCheckOf (countsOfList counts) t)) (hingeIn (hinges (facesOf counts l) ls) t)
+  pub numbered : r ≡ hingeNumber answer
+  pub deficits : deficit′ ≡ deficitOr answer deficit
+  pub kinds : kind′ ≡ kindByteOr answer kind
+
+-- the action: the answer as a number, and the action after the call
+pub record ActionOf (counts : List ℕ) (l : Lists) (ls : List Float) (action : Float) (r : ℕ) (action′ : Float) : Type 0 where
+  pub answer : ActionAnswer
+  pub answered : answer ≡ actionBy (checkOf counts l ls Done) (Action.action (facesOf counts l) ls)
+  pub numbered : r ≡ actionNumber answer
+  pub valued : action′ ≡ actionOr answer action
+
+-- the gradient: the answer as a number, and the list after the call
+pub record Graded (counts : List ℕ) (l : Lists) (ls grad : List Float) (r : ℕ) (grad′ : List Float) : Type 0 where
+  pub answer : Outcome
+  pub graded : Calls.Graded (checkOf counts l ls (roomCheckOf (shortGradient (countsOfList counts) (length grad)))) (facesOf counts l) ls grad answer grad′
+  pub numbered : r ≡ outcomeNumber answer
+
+-- the counts of signs as numbers
+abbrev pub signsList : LengthSigns → List ℕ
+signsList s = s .timelike ∷ s .null ∷ s .spacelike ∷ []
