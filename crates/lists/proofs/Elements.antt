@@ -1,8 +1,8 @@
 -- The elements of lists that are kept, gathered or counted up. Assumes nothing.
 use mathlib.Core.Path.{_≡_, refl, sym, ap, _∙_, subst}
 use mathlib.Core.Logic.{_⊎_, inl, inr, ⊎-elim}
-use mathlib.Core.Bool.{Bool, true, false, cond}
-use mathlib.Core.List.{List, [], _∷_, _++_, map, map-append, reverse, reverseAux, append-assoc, append-nil, List·Memᴰ, List·Memᴰ·head, List·Memᴰ·tail, List·Memᴰ·cases-cons, List·Memᴰ·append-cases, List·Memᴰ·eq-of-singleton, List·Memᴰ·not-nil, Memᴰ·append-left, Memᴰ·append-right, Memᴰ·of-map, Memᴰ·cast}
+use mathlib.Core.Bool.{Bool, true, false, not, cond}
+use mathlib.Core.List.{List, [], _∷_, _++_, map, map-append, map-id, reverse, reverseAux, append-assoc, append-nil, List·Memᴰ, List·Memᴰ·head, List·Memᴰ·tail, List·Memᴰ·cases-cons, List·Memᴰ·append-cases, List·Memᴰ·eq-of-singleton, List·Memᴰ·not-nil, Memᴰ·append-left, Memᴰ·append-right, Memᴰ·of-map, Memᴰ·cast}
 use Prim.Native.Nat.{ℕ, zero, suc, _+_, _*_, _/_, _%_, _≤_, _<_, suc-le-suc}
 use native.Mathlib.Nat.{le-of-suc-le-suc, not-suc-le-zero, zero-lt-suc, add-zero, add-suc, mul-zero, mul-suc, mod-eq-of-lt, div-eq-of-lt, mul-add-div, mul-add-mod-self-left}
 use native.Mathlib.Omega.{arith}
@@ -198,6 +198,21 @@ map-upto f xs d e =
 
 -- ---- loops in loops
 
+-- elements from which nothing is gathered may be left out
+pub gather-rest : {A B : Type 0} (f : A → List B) (q : A → Bool) → ((x : A) → q x ≡ true → f x ≡ []) → (xs : List A) → gather f xs ≡ gather f (keep (λ x. not (q x)) xs)
+unfolding gather keep
+gather-rest f q none [] = refl
+gather-rest {A} {B} f q none (x ∷ xs) = go (q x) (none x) (gather-rest f q none xs)
+  where
+    go : (b : Bool) → (b ≡ true → f x ≡ []) → gather f xs ≡ gather f (keep (λ x. not (q x)) xs)
+        → f x ++ gather f xs ≡ gather f (cond (not b) (x ∷ keep (λ x. not (q x)) xs) (keep (λ x. not (q x)) xs))
+    go true n r = ap (λ (l : List B). l ++ gather f xs) (n refl) ∙ r
+    go false n r = ap (λ (l : List B). f x ++ l) r
+
+-- f of each element, by its place
+pub gather-places : {A B : Type 0} (f : A → List B) (xs : List A) (d : A) → gather f xs ≡ gather (λ i. f (getD xs i d)) (upto (length xs))
+gather-places f xs d = ap (gather f) (sym (map-id xs) ∙ map-upto (λ x. x) xs d d) ∙ gather-map f (λ i. getD xs i d) (upto (length xs))
+
 -- two loops, one in the other, are one loop
 pub gather-loops : {A : Type 0} (g : ℕ → ℕ → List A) (n m : ℕ) → 0 < n → gather (λ j. gather (λ i. g i j) (upto n)) (upto m) ≡ gather (λ k. g (k % n) (k / n)) (upto (n * m))
 unfolding upto gather
@@ -227,6 +242,13 @@ pub among-says : (v : ℕ) (p : List ℕ) → Says (List·Memᴰ v p) (among v p
 unfolding among
 among-says v [] = fail List·Memᴰ·not-nil
 among-says v (x ∷ xs) = or-says List·Memᴰ·head List·Memᴰ·tail List·Memᴰ·cases-cons (eqb-says v x) (among-says v xs)
+
+pub not-among : (v : ℕ) (xs : List ℕ) → Says (List·Memᴰ v xs → ⊥) (not (among v xs))
+not-among v xs = go (among-says v xs)
+  where
+    go : {b : Bool} → Says (List·Memᴰ v xs) b → Says (List·Memᴰ v xs → ⊥) (not b)
+    go (pass m) = fail (λ f. f m)
+    go (fail f) = pass f
 
 pub within-says : (s p : List ℕ) → Says (Within s p) (within s p)
 unfolding within
@@ -288,6 +310,14 @@ upto-rising (suc n) = snoc (upto n) (upto-rising n) (λ v m. mem-upto n v m)
       (λ v m. ⊎-elim (r .0 v) (λ k. let e : v ≡ n = List·Memᴰ·eq-of-singleton k in omega (arith, h x (List·Memᴰ·head refl))) (List·Memᴰ·append-cases xs m)),
       snoc xs (r .1) (λ v m. h v (List·Memᴰ·tail m)),
     )
+
+-- a rising list has each element at one place
+pub rising-place : (p : List ℕ) (i j : ℕ) → Rising p → i < length p → j < length p → getD p i 0 ≡ getD p j 0 → i ≡ j
+rising-place [] i j r hi hj e = absurd (not-suc-le-zero hi)
+rising-place (x ∷ xs) zero zero r hi hj e = refl
+rising-place (x ∷ xs) zero (suc j) r hi hj e = absurd (omega (arith, r .0 (getD xs j 0) (getD-mem xs j 0 (le-of-suc-le-suc hj))))
+rising-place (x ∷ xs) (suc i) zero r hi hj e = absurd (omega (arith, r .0 (getD xs i 0) (getD-mem xs i 0 (le-of-suc-le-suc hi))))
+rising-place (x ∷ xs) (suc i) (suc j) r hi hj e = ap suc (rising-place xs i j (r .1) (le-of-suc-le-suc hi) (le-of-suc-le-suc hj) e)
 
 -- a rising list within another that has the same first element: the rest is within the rest
 pub within-rest : (x : ℕ) (xs : List ℕ) (y : ℕ) (ys : List ℕ) → Rising (x ∷ xs) → x ≡ y → Within (x ∷ xs) (y ∷ ys) → Within xs ys

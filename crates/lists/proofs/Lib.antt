@@ -11,3 +11,4 @@ pub mod Matches
 pub mod Grouped
 pub mod GroupSteps
 pub mod Loops
+pub mod Folds

@@ -2,29 +2,33 @@
 use Prim.Native.Nat.{ℕ, _*_, _≤_, _<_}
 use mathlib.Core.Path.{_≡_, refl, sym, ap, _∙_, subst}
 use mathlib.Core.Bool.{Bool, true, false, not, cond, _||_}
-use mathlib.Core.List.{List, List·Memᴰ}
+use mathlib.Core.List.{List, map, List·Memᴰ}
 use native.Mathlib.Omega.{arith}
 use lib.Dec.{eqb, ltb}
 use lib.ListN.{length, replicate, length-replicate}
+use lib.Ieee.{Float}
 use borrow.Author.Tests.{eqb-true, ltb-true, le-ltb, not-false}
 use Rattle.refusals.specs.declared.Refusal.{Refusal}
 use Rattle.refusals.specs.declared.Refusal.the-variants.{ShortRoom, NotBuilt, LengthCount, BadIndex}
 use Rattle.refusals.specs.declared.Outcome.{Outcome}
 use Rattle.refusals.specs.declared.Outcome.the-variants.{Done, Refused}
+use Rattle.lists.specs.Lists.{upto}
 use Rattle.lists.proofs.Tests.{said}
 use Rattle.lists.proofs.Keys.{firsts-room}
 use Rattle.lists.proofs.Rows.{length-rows, begins-over}
 use Rattle.complex.specs.declared.Counts.{Counts}
 use Rattle.complex.specs.declared.numbering.Face.the-variants.{Edge, Triangle}
-use Rattle.complex.specs.Complex.{metFaces, faces, numbersOf, edges, triangles}
+use Rattle.complex.specs.Complex.{metFaces, faces, numbersOf, triangles, triToPents}
 use Rattle.complex.specs.Builder.{Lists}
 use Rattle.complex.specs.Check.{pentsIn, isBuilt, checkedOf, Checked, writtenAfter}
 use Rattle.complex.proofs.Offences.{cond-done}
 use Rattle.complex.proofs.Meetings.{length-met}
 use Rattle.complex.proofs.Lying.{faces-has, edge-of-triangle}
 use Rattle.complex.proofs.BuiltComplex.{IsBuilt, built-says, built-sorted, built-wide, built-edges, built-triangles, built-tri-to-pents, built-pent-edges, built-pent-tris, built-simplices, built-lie}
+use Rattle.lorentzian_regge.specs.Hinges.{FaceLists, builtFaces, facesIn, hinges, hingeAt}
 use Rattle.lorentzian_regge.specs.Calls.{BuiltWith, lengthsCheckOf, builtCheckOf, roomCheckOf, triangleCheckOf}
 use Rattle.lorentzian_regge.specs.Parts.{Measured}
+use Rattle.lorentzian_regge.proofs.OnePass.{built-one-pass}
 
 -- ---- a built complex
 
@@ -56,6 +60,17 @@ built-measured c l pe pt n w e =
       holders = built-tri-to-pents c l b;
       edges-found = λ r s m k. subst (λ (keys : List (List ℕ)). List·Memᴰ s keys) (sym (built-edges c l b)) (edge-of-triangle ps (built-sorted c l b) (subst (λ (ts : List (List ℕ)). List·Memᴰ r ts) (built-triangles c l b) m) k);
     }
+
+-- its rows are those of the builder's complex
+pub built-faces : (c : Counts) (l : Lists) → IsBuilt c l → facesIn c (l .pents) (l .edges) (l .triangles) ≡ builtFaces (pentsIn c (l .pents))
+built-faces c l b = λ i. record { pents = pentsIn c (l .pents); edges = built-edges c l b i; triangles = built-triangles c l b i }
+
+-- and its table is the one that works each triangle out by itself
+pub built-table : (c : Counts) (l : Lists) (ls : List Float) → isBuilt c l ≡ true
+    → hinges (facesIn c (l .pents) (l .edges) (l .triangles)) ls ≡ map (hingeAt (builtFaces (pentsIn c (l .pents))) (triToPents (pentsIn c (l .pents))) ls) (upto (length (triangles (pentsIn c (l .pents)))))
+built-table c l ls h =
+    let b = said (built-says c l) h in
+    ap (λ (F : FaceLists). hinges F ls) (built-faces c l b) ∙ built-one-pass (pentsIn c (l .pents)) ls (built-sorted c l b) (built-wide c l b)
 
 -- ---- what the other checks say
 

@@ -1,5 +1,4 @@
 -- Laws on hinges, for proofs here and in the crates above.
-pub mod Scatters
 pub mod TableSteps
 pub mod TriangleSteps
 pub mod OnePass

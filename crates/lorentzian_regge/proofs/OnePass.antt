@@ -1,52 +1,31 @@
 -- The hinges of one pass over the pentachorons are those of each triangle by itself. Assumes nothing.
 -- The pentachorons of a triangle ascend: `holding-rising` (complex, Laws).
-use Prim.Native.Nat.{ℕ, zero, suc, _<_}
+use Prim.Native.Nat.{ℕ, zero, _<_}
 use mathlib.Core.Path.{_≡_, refl, sym, ap, _∙_, subst}
 use mathlib.Core.Bool.{Bool, not, cond}
-use mathlib.Core.List.{List, [], _∷_, map, map-id, reverse, List·Memᴰ, Memᴰ·map, Memᴰ·of-map, Memᴰ·cast}
-use native.Mathlib.Nat.{le-of-suc-le-suc, not-suc-le-zero}
+use mathlib.Core.List.{List, [], _∷_, map, reverse, List·Memᴰ, Memᴰ·map, Memᴰ·of-map, Memᴰ·cast}
 use native.Mathlib.Omega.{arith}
 use lib.ListN.{length, getD, replicate, length-replicate, getD-replicate}
 use lib.Ieee.{Float, nan}
 use Rattle.floats.specs.Ops as Ops
-use Rattle.lists.specs.Lists.{keep, gather, upto, combos, among, within, Within, Rising}
+use Rattle.lists.specs.Lists.{keep, upto, combos, among, within, Within, Rising}
 use Rattle.lists.specs.Keys.{find}
 use Rattle.lists.specs.Rows.{Wide}
 use Rattle.lists.specs.Loops.{hits}
 use Rattle.lists.proofs.Tests.{Says, pass, fail}
-use Rattle.lists.proofs.Elements.{getD-mem, getD-map, keep-mem, mem-keep, keep-same, gather-map, map-same, map-at, map-upto, upto-mem, mem-upto, upto-rising, getD-table, mem-reverse, reverse-mem, among-says, within-says}
+use Rattle.lists.proofs.Elements.{getD-mem, getD-map, gather-places, rising-place, not-among, keep-mem, mem-keep, keep-same, map-same, map-at, upto-mem, mem-upto, upto-rising, getD-table, mem-reverse, reverse-mem, among-says, within-says}
 use Rattle.lists.proofs.Keys.{find-get}
 use Rattle.lists.proofs.Choices.{combos-within, combos-has, combos-once}
 use Rattle.lists.proofs.Loops.{scatter-at, hits-keep, hits-one, hits-none}
 use Rattle.complex.specs.Complex.{triangles, holding, triToPents}
 use Rattle.complex.specs.Incidence.{Simplices, oppositeIndices}
+use Rattle.complex.proofs.SortedPents.{five-of}
 use Rattle.complex.proofs.Lying.{Sorted}
 use Rattle.complex.proofs.Incident.{simplices-of}
 use Rattle.lorentzian.specs.declared.dihedral.Dihedral.{Dihedral}
 use Rattle.lorentzian_regge.specs.declared.hinge.KindByte.{KindByte}
 use Rattle.lorentzian_regge.specs.declared.hinge.KindByte.the-variants.{NoKind}
 use Rattle.lorentzian_regge.specs.Hinges.{FaceLists, builtFaces, plus, first, closed, hinge, pentLengths, dihedralOf, pairs, without, dihedrals, allDihedrals, sums, firstKinds, hinges, hingeIn, dihedralIn, hingeAt}
-
--- ---- lists
-
--- f of each element, by its place
-gather-places : {A B : Type 0} (f : A → List B) (xs : List A) (d : A) → gather f xs ≡ gather (λ i. f (getD xs i d)) (upto (length xs))
-gather-places f xs d = ap (gather f) (sym (map-id xs) ∙ map-upto (λ x. x) xs d d) ∙ gather-map f (λ i. getD xs i d) (upto (length xs))
-
--- a rising list has each element at one place
-one-place : (p : List ℕ) (i j : ℕ) → Rising p → i < length p → j < length p → getD p i 0 ≡ getD p j 0 → i ≡ j
-one-place [] i j r hi hj e = absurd (not-suc-le-zero hi)
-one-place (x ∷ xs) zero zero r hi hj e = refl
-one-place (x ∷ xs) zero (suc j) r hi hj e = absurd (omega (arith, r .0 (getD xs j 0) (getD-mem xs j 0 (le-of-suc-le-suc hj))))
-one-place (x ∷ xs) (suc i) zero r hi hj e = absurd (omega (arith, r .0 (getD xs i 0) (getD-mem xs i 0 (le-of-suc-le-suc hi))))
-one-place (x ∷ xs) (suc i) (suc j) r hi hj e = ap suc (one-place xs i j (r .1) (le-of-suc-le-suc hi) (le-of-suc-le-suc hj) e)
-
-not-among : (v : ℕ) (xs : List ℕ) → Says (List·Memᴰ v xs → ⊥) (not (among v xs))
-not-among v xs = go (among-says v xs)
-  where
-    go : {b : Bool} → Says (List·Memᴰ v xs) b → Says (List·Memᴰ v xs → ⊥) (not b)
-    go (pass m) = fail (λ f. f m)
-    go (fail f) = pass f
 
 -- ---- the local indices of a pentachoron
 
@@ -58,13 +37,7 @@ named lm m = map-at (λ lm. keep (λ v. among v lm) (upto 5)) (λ lm. lm) [] pai
 -- the triples of five vertices are what the pairs leave, from the last pair on
 triples : (p : List ℕ) → length p ≡ 5 → combos p 3 ≡ map (without p) (reverse pairs)
 unfolding combos upto keep among without
-triples (a ∷ b ∷ c ∷ d ∷ e ∷ []) h = refl
-triples [] h = absurd (omega arith)
-triples (a ∷ []) h = absurd (omega arith)
-triples (a ∷ b ∷ []) h = absurd (omega arith)
-triples (a ∷ b ∷ c ∷ []) h = absurd (omega arith)
-triples (a ∷ b ∷ c ∷ d ∷ []) h = absurd (omega arith)
-triples (a ∷ b ∷ c ∷ d ∷ e ∷ f ∷ p) h = absurd (omega arith)
+triples p h = rw (five-of p h) refl
 
 -- the vertices that are not in what a pair leaves are the pair's own
 left-indices : (p lm : List ℕ) → Rising p → length p ≡ 5 → List·Memᴰ lm pairs → oppositeIndices p (without p lm) ≡ lm
@@ -78,7 +51,7 @@ left-indices p lm r l m =
     goes v h k n =
         let w : (i : ℕ) × List·Memᴰ i (keep (λ v. not (among v lm)) (upto 5)) × (getD p i 0 ≡ getD p v 0) = Memᴰ·of-map (λ (v : ℕ). getD p v 0) (keep (λ v. not (among v lm)) (upto 5)) n in
         let q : List·Memᴰ (w .0) (upto 5) × (List·Memᴰ (w .0) lm → ⊥) = mem-keep (λ v. not-among v lm) (upto 5) (w .1) in
-        let e : w .0 ≡ v = one-place p (w .0) v r (omega (arith, mem-upto 5 (w .0) (q .0))) (omega arith) (w .2) in
+        let e : w .0 ≡ v = rising-place p (w .0) v r (omega (arith, mem-upto 5 (w .0) (q .0))) (omega arith) (w .2) in
         q .1 (Memᴰ·cast e k)
 
     at : (v : ℕ) → v < 5 → {a b : Bool} → Says (List·Memᴰ (getD p v 0) (without p lm)) a → Says (List·Memᴰ v lm) b → not a ≡ b

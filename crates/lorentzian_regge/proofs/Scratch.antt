@@ -3,7 +3,7 @@ use Prim.Native.Nat.{ℕ, _≤_, _<_}
 use mathlib.Core.Path.{_≡_, refl, sym, ap, _∙_, subst}
 use mathlib.Core.Logic.{⊎-elim}
 use mathlib.Core.Bool.{Bool, true, false, cond}
-use mathlib.Core.List.{List, [], _∷_, _++_, foldl, List·Memᴰ, List·Memᴰ·head, List·Memᴰ·tail, List·Memᴰ·cases-cons, List·Memᴰ·not-nil}
+use mathlib.Core.List.{List, [], _++_, List·Memᴰ, List·Memᴰ·cases-cons, List·Memᴰ·not-nil}
 use native.Mathlib.Omega.{arith}
 use lib.ListN.{length, getD, drop, replicate, length-replicate, length-map, List·getD-append}
 use lib.Ieee.{Float, nan, lt}
@@ -14,7 +14,8 @@ use Rattle.lists.specs.Rows.{over}
 use Rattle.lists.specs.Groups.{Below}
 use Rattle.lists.specs.Loops.{scatter}
 use Rattle.lists.proofs.Elements.{getD-mem, gather-same, mem-gather, mem-upto, length-upto}
-use Rattle.lists.proofs.Loops.{length-scatter}
+use Rattle.lists.proofs.Loops.{length-scatter, scatter-front}
+use Rattle.lists.proofs.Folds.{fold-same}
 use Rattle.lists.proofs.Rows.{length-rows}
 use Rattle.complex.specs.declared.Counts.{Counts}
 use Rattle.complex.specs.Check.{edgesIn, trianglesIn}
@@ -22,7 +23,6 @@ use Rattle.complex.proofs.FaceNumbers.{three-edges}
 use Rattle.lorentzian_regge.specs.Hinges.{FaceLists, facesIn, hinges, deficitsOf}
 use Rattle.lorentzian_regge.specs.Action.{edgesAt, triLengths, absArea, areaLimit, actionOf, action, three, pullOf, pullsOf, pulls, gradientOf, gradient}
 use Rattle.lorentzian_regge.specs.Parts.{Measured}
-use Rattle.lorentzian_regge.proofs.Scatters.{scatter-front}
 use Rattle.lorentzian_regge.proofs.TriangleSteps.{edges-below}
 
 -- room for a number in a list of scratch
@@ -39,10 +39,6 @@ front-at : (F : FaceLists) (ls old : List Float) (t : ℕ) → List·Memᴰ t (u
 unfolding over
 front-at F ls old t m =
     List·getD-append (deficitsOf (hinges F ls)) (drop (length (deficitsOf (hinges F ls))) old) nan t (omega (arith, mem-upto (length (F .triangles)) t m, length-deficits F ls))
-
-fold-same : {A S : Type 0} (f g : S → A → S) (s : S) (xs : List A) → ((s : S) (a : A) → List·Memᴰ a xs → f s a ≡ g s a) → foldl f s xs ≡ foldl g s xs
-fold-same f g s [] h = refl
-fold-same {A} {S} f g s (x ∷ xs) h = ap (λ (u : S). foldl f u xs) (h s x (List·Memᴰ·head refl)) ∙ fold-same f g (g s x) xs (λ u a m. h u a (List·Memᴰ·tail m))
 
 -- the action reads the deficits of triangles alone
 pub action-front : (F : FaceLists) (ls old ds : List Float) → ds ≡ over (deficitsOf (hinges F ls)) old → actionOf F ls ds ≡ action F ls

@@ -2,8 +2,8 @@
 use Prim.Native.Nat.{ℕ, _<_}
 use mathlib.Core.Path.{_≡_, refl, sym, ap, _∙_, subst}
 use mathlib.Core.Logic.{⊎-elim}
-use mathlib.Core.Bool.{Bool, true, false, not, cond}
-use mathlib.Core.List.{List, [], _∷_, _++_, map, foldl, List·Memᴰ, List·Memᴰ·head, List·Memᴰ·tail, List·Memᴰ·cases-cons, List·Memᴰ·not-nil, Memᴰ·map}
+use mathlib.Core.Bool.{true, not}
+use mathlib.Core.List.{List, [], _∷_, map, foldl, List·Memᴰ, List·Memᴰ·cases-cons, List·Memᴰ·not-nil, Memᴰ·map}
 use native.Mathlib.Omega.{arith}
 use lib.ListN.{length, getD, replicate, length-replicate}
 use lib.Ieee.{Float, nan, inf, fin, ofBits, neg, add, mul, div, lt, le}
@@ -12,9 +12,8 @@ use Rattle.floats.specs.Methods.{absOf}
 use Rattle.root.specs.Root.{rootOf}
 use Rattle.lists.specs.Lists.{keep, gather, upto}
 use Rattle.lists.specs.Loops.{scatter, hits}
-use Rattle.lists.proofs.Tests.{Says, pass, fail, eqb-says}
-use Rattle.lists.proofs.Elements.{gather-mem, upto-mem}
-use Rattle.lists.proofs.Loops.{scatter-at}
+use Rattle.lists.proofs.Elements.{gather-mem, gather-rest, upto-mem}
+use Rattle.lists.proofs.Loops.{scatter-at, hits-has}
 use Rattle.lorentzian.specs.Triangle.{areaSqGrad}
 use Rattle.lorentzian_regge.specs.Hinges.{FaceLists}
 use Rattle.lorentzian_regge.specs.Action.{edgesAt, triLengths, areaSqOf, absArea, areaLimit, factorOf, pullOf, three, pullsOf, pulls, gradientOf}
@@ -24,17 +23,6 @@ use Rattle.lorentzian_regge.specs.Action.{edgesAt, triLengths, areaSqOf,
 pub skipped-adds-nothing : (F : FaceLists) (ls ds : List Float) (t : ℕ) → lt (absArea (triLengths F ls t)) areaLimit ≡ true → pulls F ls ds t ≡ []
 unfolding pulls pullsOf
 skipped-adds-nothing F ls ds t e = rw e refl
-
--- elements from which nothing is gathered may be left out
-gather-rest : {A B : Type 0} (f : A → List B) (q : A → Bool) → ((x : A) → q x ≡ true → f x ≡ []) → (xs : List A) → gather f xs ≡ gather f (keep (λ x. not (q x)) xs)
-unfolding gather keep
-gather-rest f q none [] = refl
-gather-rest {A} {B} f q none (x ∷ xs) = go (q x) (none x) (gather-rest f q none xs)
-  where
-    go : (b : Bool) → (b ≡ true → f x ≡ []) → gather f xs ≡ gather f (keep (λ x. not (q x)) xs)
-        → f x ++ gather f xs ≡ gather f (cond (not b) (x ∷ keep (λ x. not (q x)) xs) (keep (λ x. not (q x)) xs))
-    go true n r = ap (λ (l : List B). l ++ gather f xs) (n refl) ∙ r
-    go false n r = ap (λ (l : List B). f x ++ l) r
 
 -- triangles below the limit add nothing to the gradient
 pub gradient-skips : (F : FaceLists) (ls ds : List Float) → gradientOf F ls ds ≡ scatter nan _⊕_ (gather (pulls F ls ds) (keep (λ t. not (lt (absArea (triLengths F ls t)) areaLimit)) (upto (length (F .triangles))))) (replicate (length (F .edges)) zero)
@@ -70,16 +58,6 @@ sum-with-nan x (y ∷ xs) m =
     (λ e. ap (λ (z : Float). foldl _⊕_ (x ⊕ z) xs) (sym e) ∙ ap (λ (z : Float). foldl _⊕_ z xs) (add-nan x) ∙ sum-from-nan xs)
     (sum-with-nan (x ⊕ y) xs)
     (List·Memᴰ·cases-cons m)
-
--- an event's value is among those of its place
-hits-has : {X : Type 0} (j : ℕ) (es : List (ℕ × X)) {x : X} → List·Memᴰ (j, x) es → List·Memᴰ x (hits j es)
-unfolding hits
-hits-has j [] m = absurd (List·Memᴰ·not-nil m)
-hits-has {X} j (a ∷ es) {x} m = go (eqb-says (a .0) j) (hits-has j es)
-  where
-    go : {b : Bool} → Says (a .0 ≡ j) b → (List·Memᴰ (j, x) es → List·Memᴰ x (hits j es)) → List·Memᴰ x (cond b (a .1 ∷ hits j es) (hits j es))
-    go (pass p) r = ⊎-elim (λ e. List·Memᴰ·head (ap (λ (c : ℕ × X). c .1) e)) (λ k. List·Memᴰ·tail (r k)) (List·Memᴰ·cases-cons m)
-    go (fail f) r = ⊎-elim (λ e. absurd (f (sym (ap (λ (c : ℕ × X). c .0) e)))) r (List·Memᴰ·cases-cons m)
 
 three-nans : (es : List ℕ) → length es ≡ 3 → three es (nan ∷ nan ∷ nan ∷ []) ≡ map (λ e. (e, nan)) es
 three-nans (a ∷ b ∷ c ∷ []) h = refl

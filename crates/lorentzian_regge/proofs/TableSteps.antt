@@ -15,8 +15,8 @@ use Rattle.lists.specs.Groups.{Below}
 use Rattle.lists.specs.Loops.{scatter}
 use Rattle.lists.proofs.Elements.{getD-mem, getD-map, map-same, mem-gather, gather-snoc, mem-upto, length-upto}
 use Rattle.lists.proofs.Keys.{find-mem}
-use Rattle.lists.proofs.Loops.{length-scatter}
-use Rattle.lists.proofs.Rows.{length-rows, rows-wide}
+use Rattle.lists.proofs.Loops.{length-scatter, scatter-append, scatter-front, scatter-map}
+use Rattle.lists.proofs.Rows.{length-rows, rows-wide, map-replicate}
 use Rattle.complex.specs.declared.Counts.{Counts}
 use Rattle.complex.specs.declared.numbering.Face.the-variants.{Edge, Triangle}
 use Rattle.complex.specs.Complex.{rowNumbers}
@@ -31,7 +31,6 @@ use Rattle.lorentzian_regge.specs.declared.hinge.KindByte.{KindByte}
 use Rattle.lorentzian_regge.specs.declared.hinge.KindByte.the-variants.{NoKind}
 use Rattle.lorentzian_regge.specs.Hinges.{FaceLists, byteOf, kindIn, plus, first, closed, pentLengths, lengthsAt, dihedralOf, pairs, without, dihedrals, allDihedrals, sums, firstKinds, hinges, deficitsOf, kindsOf}
 use Rattle.lorentzian_regge.specs.Parts.{Found, Passable, firstByte, tenEvents}
-use Rattle.lorentzian_regge.proofs.Scatters.{map-replicate, scatter-append, scatter-front, scatter-map}
 use Rattle.lorentzian_regge.proofs.HingeKinds.{kind-byte}
 
 -- ---- the events of a pentachoron

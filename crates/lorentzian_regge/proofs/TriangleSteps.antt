@@ -1,17 +1,14 @@
--- The steps of the loops over triangles: a triangle's edges have lengths and entries, its pentachorons hold it, and sums grow by one triangle or one pentachoron. Assumes nothing.
-use Prim.Native.Nat.{ℕ, _+_, _≤_, _<_}
-use mathlib.Core.Path.{_≡_, refl, sym, ap, _∙_, subst}
+-- The steps of the loops over triangles: a triangle's edges have places in lists with one for each, and it lies in each of its pentachorons. Assumes nothing.
+use Prim.Native.Nat.{ℕ, _≤_, _<_}
+use mathlib.Core.Path.{_≡_, refl, subst}
 use mathlib.Core.Bool.{true}
-use mathlib.Core.List.{List, [], _∷_, map, map-append, foldl, foldl-append, List·Memᴰ, List·Memᴰ·head, List·Memᴰ·tail}
-use native.Mathlib.Numerals.{add-one}
+use mathlib.Core.List.{List, [], List·Memᴰ, List·Memᴰ·head, List·Memᴰ·tail}
 use native.Mathlib.Omega.{arith}
-use lib.ListN.{length, getD, take}
-use lib.Seq.{take-suc}
-use Rattle.lists.specs.Lists.{gather, upto, within}
-use Rattle.lists.specs.Loops.{scatter}
+use lib.ListN.{length, getD}
+use Rattle.lists.specs.Lists.{upto, within}
 use Rattle.lists.specs.Groups.{Below}
 use Rattle.lists.proofs.Tests.{passes}
-use Rattle.lists.proofs.Elements.{getD-mem, gather-snoc, keep-only, mem-upto, within-says}
+use Rattle.lists.proofs.Elements.{getD-mem, keep-only, mem-upto, within-says}
 use Rattle.lists.proofs.Rows.{length-rows}
 use Rattle.complex.specs.declared.Counts.{Counts}
 use Rattle.complex.specs.declared.incidence.Opposite.{Opposite}
@@ -20,35 +17,7 @@ use Rattle.complex.specs.Check.{pentsIn, edgesIn, trianglesIn}
 use Rattle.complex.specs.Incidence.{indexList, oppositeIndices}
 use Rattle.complex.proofs.Lying.{mem-holding}
 use Rattle.lorentzian_regge.specs.Parts.{Measured}
-use Rattle.lorentzian_regge.proofs.Scatters.{scatter-append}
 use Rattle.lorentzian_regge.proofs.TableSteps.{numbers-below}
-
--- ---- sums
-
--- a fold over one element more of a list
-pub fold-next : {A B S : Type 0} (f : A → B) (g : S → B → S) (s : S) (xs : List A) (k : ℕ) (d : A) → k < length xs
-    → foldl g s (map f (take (k + 1) xs)) ≡ g (foldl g s (map f (take k xs))) (f (getD xs k d))
-fold-next {A} {B} {S} f g s xs k d h =
-    ap (λ (l : List A). foldl g s (map f l)) (ap (λ (n : ℕ). take n xs) (add-one k) ∙ take-suc xs k d h)
-    ∙ ap (foldl g s) (map-append f (take k xs) (getD xs k d ∷ []))
-    ∙ foldl-append g s (map f (take k xs)) (f (getD xs k d) ∷ [])
-
--- a fold over one number more
-pub fold-upto : {S : Type 0} (g : S → ℕ → S) (s : S) (k : ℕ) → foldl g s (upto (k + 1)) ≡ g (foldl g s (upto k)) k
-unfolding upto
-fold-upto {S} g s k = ap (λ (n : ℕ). foldl g s (upto n)) (add-one k) ∙ foldl-append g s (upto k) (k ∷ [])
-
--- the events of one number more
-pub scatter-turn : {S X : Type 0} (d : S) (f : S → X → S) (event : ℕ → List (ℕ × X)) (k : ℕ) (es : List (ℕ × X)) (old now new : List S) → es ≡ event k
-    → now ≡ scatter d f (gather event (upto k)) old → new ≡ scatter d f es now → new ≡ scatter d f (gather event (upto (k + 1))) old
-unfolding upto
-scatter-turn {S} {X} d f event k es old now new e was is =
-    is
-    ∙ rw (e, was) (sym (scatter-append d f (gather event (upto k)) (event k) old))
-    ∙ ap (λ (l : List (ℕ × X)). scatter d f l old) (sym (gather-snoc event (upto k) k))
-    ∙ ap (λ (n : ℕ). scatter d f (gather event (upto n)) old) (sym (add-one k))
-
--- ---- a triangle and its pentachorons
 
 -- both vertices that a triangle leaves are vertices of the pentachoron
 pub opposite-below : (p t : List ℕ) (r : Opposite) → length p ≡ 5 → indexList r ≡ oppositeIndices p t → (r .l < 5) × (r .m < 5)

@@ -43,9 +43,10 @@ impl KindByte {
     pub fn or_of(self, dihedral: Dihedral) -> KindByte
         ensures { λ r. ⌜ r ≡ first self dihedral ⌝ }
     {
+        let own = dihedral.kind();
         match self {
             KindByte::Kind(kind) => KindByte::Kind(kind),
-            KindByte::NoKind => KindByte::Kind(dihedral.kind()),
+            KindByte::NoKind => KindByte::Kind(own),
         }
     }
 }

@@ -8,12 +8,13 @@ use lib.Seq.{take-all}
 use borrow.Author.Needs.{needs}
 use Rattle.floats.specs.Ops.{zero}
 use Rattle.lists.proofs.Rows.{length-rows}
+use Rattle.lists.proofs.Folds.{fold-next}
 use Rattle.complex.specs.Check.{trianglesIn}
 use Rattle.lorentzian.specs.declared.dihedral.Dihedral.{Dihedral}
 use Rattle.lorentzian_regge.specs.declared.hinge.KindByte.the-variants.{NoKind}
 use Rattle.lorentzian_regge.specs.Hinges.{FaceLists, facesIn, plus, first, hinge, dihedralIn, closed}
 use Rattle.lorentzian_regge.proofs.TableSteps.{pents-wide}
-use Rattle.lorentzian_regge.proofs.TriangleSteps.{fold-next, holder-lies}
+use Rattle.lorentzian_regge.proofs.TriangleSteps.{holder-lies}
 use Rattle.lorentzian_regge.proofs.OnePass.{hinge-in}
 use Rattle.lorentzian_regge.proofs.deficits.hinge_at.Statement.{statement}
 use Rattle.lorentzian_regge.proofs.deficits.hinge_at.Tie as tie

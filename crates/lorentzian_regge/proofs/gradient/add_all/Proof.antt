@@ -8,10 +8,11 @@ use borrow.Author.Needs.{needs}
 use Rattle.floats.specs.Ops.{_⊕_}
 use Rattle.lists.specs.Lists.{gather, upto}
 use Rattle.lists.specs.Loops.{scatter}
+use Rattle.lists.proofs.Loops.{scatter-turn}
 use Rattle.complex.specs.Incidence.{edgeList}
 use Rattle.lorentzian_regge.specs.Hinges.{FaceLists, facesIn, lengthsAt}
 use Rattle.lorentzian_regge.specs.Action.{edgesAt, triLengths, pullsOf, pulls}
-use Rattle.lorentzian_regge.proofs.TriangleSteps.{scatter-turn, edges-below}
+use Rattle.lorentzian_regge.proofs.TriangleSteps.{edges-below}
 use Rattle.lorentzian_regge.proofs.gradient.add_all.Statement.{statement}
 use Rattle.lorentzian_regge.proofs.gradient.add_all.Tie as tie
 

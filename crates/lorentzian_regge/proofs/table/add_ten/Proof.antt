@@ -9,11 +9,11 @@ use lib.Ieee.{nan}
 use borrow.Author.Needs.{needs}
 use Rattle.lists.specs.Lists.{upto}
 use Rattle.lists.specs.Loops.{scatter}
+use Rattle.lists.proofs.Loops.{scatter-next}
 use Rattle.lorentzian.specs.declared.dihedral.Dihedral.{Dihedral}
 use Rattle.lorentzian.specs.declared.dihedral.Dihedral.the-variants.{Angle}
 use Rattle.lorentzian_regge.specs.Hinges.{plus}
 use Rattle.lorentzian_regge.specs.Parts.{firstByte}
-use Rattle.lorentzian_regge.proofs.Scatters.{scatter-next}
 use Rattle.lorentzian_regge.proofs.table.add_ten.Statement.{statement}
 use Rattle.lorentzian_regge.proofs.table.add_ten.Tie as tie
 

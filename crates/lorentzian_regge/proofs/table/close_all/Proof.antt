@@ -8,11 +8,10 @@ use lib.ListN.{length, getD, drop, length-set}
 use lib.Ieee.{Float, nan}
 use borrow.Author.Needs.{needs}
 use Rattle.lists.specs.Lists.{upto}
-use Rattle.lists.proofs.Rows.{map-turn}
+use Rattle.lists.proofs.Rows.{map-turn, read-next}
 use Rattle.lorentzian.specs.Dihedral.{kindNumber}
 use Rattle.lorentzian_regge.specs.declared.hinge.Hinge.{Hinge}
 use Rattle.lorentzian_regge.specs.Hinges.{kindIn, closed}
-use Rattle.lorentzian_regge.proofs.Scatters.{read-next}
 use Rattle.lorentzian_regge.proofs.table.close_all.Statement.{statement}
 use Rattle.lorentzian_regge.proofs.table.close_all.Tie as tie
 

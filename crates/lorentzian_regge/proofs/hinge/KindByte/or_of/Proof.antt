@@ -5,14 +5,14 @@ use Rattle.lorentzian_regge.specs.Hinges.{first}
 use Rattle.lorentzian_regge.proofs.hinge.KindByte.or_of.Statement.{statement}
 use Rattle.lorentzian_regge.proofs.hinge.KindByte.or_of.Tie as tie
 
+kind-requires : tie.Need-kind-requires
+kind-requires c κs = search needs
+
 enum-known-self : tie.Need-enum-known-self
 enum-known-self c = search needs
 
 enum-told : tie.Need-enum-told
 enum-told c = search needs
-
-kind-requires : tie.Need-kind-requires
-kind-requires c κs = search needs
 
 returns : tie.Need-returns
 unfolding first
@@ -20,7 +20,7 @@ returns c = rw (c .before .self .given .1) refl
 
 returns-2 : tie.Need-returns-2
 unfolding first
-returns-2 c = rw (c .before .enum-told .given .1, c .kind .ensures) refl
+returns-2 c = rw (c .enum-told .given .1, c .before .before .kind .ensures) refl
 
 pub or-of-spec : {M : Type 1} → statement M
-or-of-spec = tie.close (tie.spec enum-known-self enum-told kind-requires returns returns-2)
+or-of-spec = tie.close (tie.spec kind-requires enum-known-self enum-told returns returns-2)
