@@ -1,5 +1,8 @@
-//! Times our from_pentachorons and lattices beside the Rust's on the same inputs and our check_built beside the Rust's deficits or, with the argument `stack`, measures the stack of our calls.
+//! Times our from_pentachorons, lattices and hinges beside the Rust's on the same inputs and our check_built beside the Rust's deficits or, with the argument `stack`, measures the stack of our calls.
 mod check;
+mod hinges;
+#[path = "../oracle/hinges/library.rs"]
+mod hinges_library;
 mod lattices;
 #[path = "../oracle/foliation/library.rs"]
 mod library;
@@ -118,6 +121,7 @@ fn main() -> ExitCode {
             times();
             check::times();
             lattices::times();
+            hinges::times();
         }
         ["stack"] => stack::measure(),
         _ => {

@@ -1,11 +1,10 @@
 //! Our check_built beside the Rust's lorentzian_deficit_angles.
 use crate::{REPETITIONS, ours, print_heading, print_times, timed};
 use calls::checks::Check;
-use calls::lattice::lattice;
+use calls::lattice::{flat_lengths, lattice};
 use calls::random::Random;
 use calls::{Complex, as_rust};
 use phyz_regge::complex::SimplicialComplex;
-use phyz_regge::foliation::{FoliatedComplex, flat_minkowski_sq_lengths};
 use phyz_regge::lorentzian_regge::lorentzian_deficit_angles;
 
 /// The lattice's time steps and points an axis.
@@ -36,14 +35,10 @@ impl Prepared {
     }
 }
 
-/// The flat squared lengths of the lattice's edges, each moved at random.
-fn lengths(complex: &SimplicialComplex) -> Vec<f64> {
-    let (n_slices, n_spatial) = SIZE;
-    let vertices_per_slice = n_spatial * n_spatial * n_spatial;
-    let (edge_types, vertex_map, complex) = (vec![], vec![], complex.clone());
-    let lattice = FoliatedComplex { complex, n_slices, vertices_per_slice, n_spatial, edge_types, vertex_map };
+/// The flat squared lengths of a lattice's edges, each moved at random.
+pub fn moved_lengths(size: (usize, usize), complex: &SimplicialComplex) -> Vec<f64> {
     let mut random = Random(1);
-    let flat = flat_minkowski_sq_lengths(&lattice, 1.0, 0.5);
+    let flat = flat_lengths(size, complex, 1.0, 0.5);
     flat.into_iter().map(|length| length + random.between(-MOVED, MOVED)).collect()
 }
 
@@ -51,7 +46,7 @@ fn lengths(complex: &SimplicialComplex) -> Vec<f64> {
 pub fn times() {
     let complex = lattice(SIZE.0, SIZE.1);
     let rust_complex = SimplicialComplex::from_pentachorons(complex.0, &as_rust(&complex.1));
-    let lengths = lengths(&rust_complex);
+    let lengths = moved_lengths(SIZE, &rust_complex);
     let mut prepared = Prepared::new(&complex);
     let (mut ours, mut rust) = (Vec::new(), Vec::new());
     for _ in 0..REPETITIONS {

@@ -1,4 +1,5 @@
 //! How deep the stack of our call is: the stack below it is painted, and the paint that is gone afterwards is measured. For x86-64.
+use crate::hinges::{self, Hinges};
 use crate::lattices::{self, Edges, Listing, SIZE};
 use crate::{Prepared, check, random};
 use calls::Complex;
@@ -84,6 +85,45 @@ fn measure_lattices() {
     measure_edges("lattice 5, 4, the last start wrong", |edges| *edges.check.lists[9].last_mut().unwrap() += 1);
 }
 
+/// A call on hinges.
+type HingesCall = fn(&mut Hinges) -> u32;
+
+/// Measures the calls on a complex's hinges, changed by a function.
+fn measure_hinges(name: &str, complex: &Complex, change: fn(&mut Hinges)) {
+    let complex = hinges::built(complex);
+    let calls: [(&str, HingesCall); 5] = [
+        ("deficits", Hinges::deficits),
+        ("one hinge", Hinges::hinge),
+        ("action", Hinges::action),
+        ("gradient", Hinges::gradient),
+        ("length signs", Hinges::signs),
+    ];
+    for (function, call) in calls {
+        let mut hinges = Hinges::new(&complex, vec![1.0; complex.edges.len()]);
+        change(&mut hinges);
+        measure_one(&format!("{function}, {name}"), move || call(&mut hinges));
+    }
+}
+
+/// Measures the calls on hinges, answered ones and refused ones.
+fn measure_all_hinges() {
+    let lattice = lattice(SIZE.0, SIZE.1);
+    measure_hinges("lattice 5, 4", &lattice, |_| ());
+    measure_hinges("8192 pents, 4096 vertices", &random(4_096), |_| ());
+    measure_hinges("lattice 5, 4, the last start wrong", &lattice, |hinges| {
+        *hinges.check.lists[9].last_mut().unwrap() += 1;
+    });
+    measure_hinges("lattice 5, 4, a length too few", &lattice, |hinges| {
+        hinges.lengths.pop();
+    });
+    measure_hinges("lattice 5, 4, the outputs short, the triangle outside", &lattice, |hinges| {
+        hinges.deficits.pop();
+        hinges.grad.pop();
+        hinges.tri = u32::MAX;
+    });
+    measure_hinges("no pents", &(4_096, vec![]), |_| ());
+}
+
 /// Measures answered calls, refused ones and one without pentachorons.
 pub fn measure() {
     let (n_vertices, mut outside) = random(4_096);
@@ -101,4 +141,5 @@ pub fn measure() {
     measure_check("8192 pents, no vertices", &complex, |call| call.check.counts[0] = 0);
     measure_check("no pents", &(4_096, vec![]), |_| ());
     measure_lattices();
+    measure_all_hinges();
 }

@@ -3,6 +3,7 @@ pub mod checks;
 pub mod complexes;
 pub mod damages;
 pub mod defects;
+pub mod differences;
 pub mod expected;
 pub mod frozen;
 pub mod lattice;

@@ -1,4 +1,5 @@
 //! The calls of check_built, and what they must answer: the lists are built anew by the Rust and compared.
+use crate::random::Random;
 use crate::{Call, expected, rooms};
 use phyz_regge::complex::SimplicialComplex;
 
@@ -51,8 +52,21 @@ impl Check {
     }
 }
 
+/// Lengthens the lists by nothing or by up to some places: numbers of the list again, or junk.
+pub fn longer(random: &mut Random, mut check: Check) -> Check {
+    let most = random.pick(&[0, 0, 1, 40]);
+    for (list, length) in check.lists.iter_mut().zip(&mut check.lengths) {
+        for _ in 0..random.below(most + 1) {
+            let again = if list.is_empty() { 0 } else { random.pick(list) };
+            list.push(random.pick(&[again, again, 0, u32::MAX, random.0 as u32]));
+        }
+        *length = list.len();
+    }
+    check
+}
+
 /// The complex whose lists and counts a call is given, if they are any's that the builder answers.
-fn built(check: &Check) -> Option<SimplicialComplex> {
+pub fn built(check: &Check) -> Option<SimplicialComplex> {
     let [n_vertices, n_pents, ..] = check.counts;
     let pents = check.lent(0).get(..n_pents.checked_mul(5)?)?.to_vec();
     let lengths = rooms(pents.len());

@@ -1,16 +1,16 @@
 //! Compares our library's from_pentachorons with the Rust's and its refusals with their table, then its check_built with the definition.
 mod compare_checks;
-mod differences;
 mod guarded;
+mod guarded_complex;
 mod guards;
 mod ours;
 
 use calls::complexes::KINDS;
+use calls::differences::{self, Differences};
 use calls::expected::{self, Answer, Lent};
 use calls::lattice::lattice;
 use calls::random::Random;
 use calls::{Call, LISTS, as_rust, defects, rooms};
-use differences::Differences;
 use phyz_regge::foliation::foliated_hypercubic;
 use std::collections::HashSet;
 use std::process::ExitCode;

@@ -1,9 +1,9 @@
 //! Compares our library's check_built with the definition that `calls::checks` computes by the Rust.
-use crate::differences::{self, Differences};
 use crate::guarded;
 use calls::checks::{self, Check, OUTPUTS};
 use calls::complexes::{KINDS, Kind, MOST_PENTS, scattered};
 use calls::damages::{DAMAGES, Damage};
+use calls::differences::{self, Differences};
 use calls::random::Random;
 use calls::{Complex, as_rust};
 use phyz_regge::complex::SimplicialComplex;

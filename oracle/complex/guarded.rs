@@ -1,4 +1,5 @@
 //! Our library's calls on lists that lie between guards.
+use crate::guarded_complex::GuardedComplex;
 use crate::guards::Guarded;
 use crate::ours;
 use calls::checks::{Check, Checked, OUTPUTS};
@@ -35,17 +36,12 @@ pub fn answer(call: &Call, before: &Lent) -> (Answer, Vec<String>) {
     (Answer { number, place: place.content()[0], lent }, stray)
 }
 
-/// Checks with outputs of this content; the answer, and what the call did to memory that it wasn't lent to write to. A list's whole content lies between its guards, so that what isn't lent of it stands past what is.
+/// Checks with outputs of this content; the answer, and what the call did to memory that it wasn't lent to write to.
 pub fn checked(check: &Check, before: &[Vec<u32>; 2]) -> (Checked, Vec<String>) {
-    let mut counts = Guarded::new(&check.counts, GUARD as usize);
-    let mut lists = check.lists.each_ref().map(guarded);
+    let mut complex = GuardedComplex::new(check);
     let mut outputs = before.each_ref().map(guarded);
-    let starts = lists.each_mut().map(|list| list.start().cast_const());
-    let read = std::array::from_fn(|list| (starts[list], check.lengths[list]));
-    let number = unsafe { ours::check_built(counts.start(), read, outputs.each_mut().map(lent)) };
-    let given = LISTS.iter().zip(&lists).zip(&check.lists);
-    let complaints = given.flat_map(|((list, guarded), given)| guarded.complaints(list.name, given));
-    let others = OUTPUTS.iter().zip(&outputs).filter_map(|(name, output)| output.complaint(name));
-    let stray = complaints.chain(counts.complaints("counts", &check.counts)).chain(others).collect();
+    let number = unsafe { ours::check_built(complex.counts(), complex.lists(), outputs.each_mut().map(lent)) };
+    let complaints = OUTPUTS.iter().zip(&outputs).filter_map(|(name, output)| output.complaint(name));
+    let stray = complex.stray().into_iter().chain(complaints).collect();
     (Checked { number, outputs: outputs.map(|output| output.content().to_vec()) }, stray)
 }

@@ -1,5 +1,7 @@
 //! The pentachorons of the periodic lattice, in the order of the loops z, y, x, t, the first of equals kept.
 use crate::{Complex, Pent};
+use phyz_regge::complex::SimplicialComplex;
+use phyz_regge::foliation::{FoliatedComplex, flat_minkowski_sq_lengths};
 use std::collections::HashSet;
 
 /// The orders of the four axes, as the Rust's `permute` gives them.
@@ -36,4 +38,13 @@ pub fn lattice(n_t: usize, n_s: usize) -> Complex {
         }
     }
     (n_vertices, pents)
+}
+
+/// The Rust's flat squared lengths of what is built of the lattice of n_t time steps and n_s points an axis.
+pub fn flat_lengths((n_t, n_s): (usize, usize), complex: &SimplicialComplex, spacing: f64, dt: f64) -> Vec<f64> {
+    let (complex, vertices_per_slice) = (complex.clone(), n_s * n_s * n_s);
+    let (edge_types, vertex_map) = (vec![], vec![]);
+    let lattice =
+        FoliatedComplex { complex, n_slices: n_t, vertices_per_slice, n_spatial: n_s, edge_types, vertex_map };
+    flat_minkowski_sq_lengths(&lattice, spacing, dt)
 }

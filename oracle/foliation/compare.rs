@@ -2,10 +2,10 @@
 mod compare_built;
 mod compare_edges;
 mod compare_lists;
-#[path = "../complex/differences.rs"]
-mod differences;
 #[path = "../complex/guarded.rs"]
 mod guarded;
+#[path = "../complex/guarded_complex.rs"]
+mod guarded_complex;
 #[path = "../complex/guards.rs"]
 mod guards;
 mod library;

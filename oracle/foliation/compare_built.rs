@@ -1,11 +1,11 @@
 //! Compares what our library builds of its own lattices with what the Rust builds of the altered copy's, and with the counts of 01-scope.md.
 use crate::compare_lists::{before, listed};
+use crate::guarded;
 use crate::tally::{Tally, of_numbers};
-use crate::{differences, guarded};
 use altered::foliation::FoliatedComplex;
 use calls::checks::{self, Check};
 use calls::expected::{self as builder, Answer, Lent};
-use calls::{Call, LISTS};
+use calls::{Call, LISTS, differences};
 use lattices::expected::{Lattices, numbers};
 use lattices::sizes::{self, Size};
 

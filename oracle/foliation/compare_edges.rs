@@ -1,10 +1,10 @@
 //! Compares our library's edge types and flat lengths with the altered Rust's and their refusals with the table.
+use crate::guarded_complex::GuardedComplex;
 use crate::guards::Guarded;
 use crate::library;
 use crate::tally::{Tally, of_numbers, of_values};
 use altered::foliation::FoliatedComplex;
-use calls::LISTS;
-use calls::checks::Check;
+use calls::checks::{Check, longer};
 use calls::damages::{DAMAGES, Damage};
 use calls::random::Random;
 use lattices::expected::{self, Lattices};
@@ -20,49 +20,31 @@ const SMALL: usize = 81;
 const DRAWN: [usize; 2] = [200, 40];
 const CHOSEN: [usize; 2] = [1, 23];
 
-/// What guards the lists, and the outputs.
-const GUARD: u32 = 0x5a5a_a5a5;
+/// What guards the outputs.
 const GUARD_BYTE: u8 = 0xa5;
 const GUARD_BITS: u64 = 0x5a5a_a5a5_5a5a_a5a5;
 
 /// Counts and lists between guards, the size that is asked for with them, and what the Rust has there.
 struct Over<'a> {
     size: Size,
-    given: &'a Check,
-    counts: Guarded<usize>,
-    lists: [Guarded<u32>; 10],
+    complex: GuardedComplex<'a>,
     expected: Result<&'a FoliatedComplex, u32>,
 }
 
 impl<'a> Over<'a> {
     /// A size with counts and lists.
     fn new(lattices: &'a Lattices, size: Size, given: &'a Check) -> Self {
-        let counts = Guarded::new(&given.counts, GUARD as usize);
-        let lists = given.lists.each_ref().map(|list| Guarded::new(list, GUARD));
-        Over { size, given, counts, lists, expected: expected::over(lattices, size, given) }
-    }
-
-    /// The lists as they are lent: what isn't lent of one stands past what is.
-    fn lent(&mut self) -> library::Lists {
-        let starts = self.lists.each_mut().map(|list| list.start().cast_const());
-        std::array::from_fn(|list| (starts[list], self.given.lengths[list]))
-    }
-
-    /// What a call did to what it was lent to read.
-    fn stray(&self) -> Vec<String> {
-        let given = LISTS.iter().zip(&self.lists).zip(&self.given.lists);
-        let complaints = given.flat_map(|((list, guarded), given)| guarded.complaints(list.name, given));
-        complaints.chain(self.counts.complaints("counts", &self.given.counts)).collect()
+        Over { size, complex: GuardedComplex::new(given), expected: expected::over(lattices, size, given) }
     }
 
     /// How many edges the size's lattice has, or how many are counted.
     fn edges(&self) -> usize {
-        self.expected.map_or(self.given.counts[2].min(10_000), |lattice| lattice.complex.edges.len())
+        self.expected.map_or(self.complex.given.counts[2].min(10_000), |lattice| lattice.complex.edges.len())
     }
 
     /// The call in short.
     fn shown(&self, room: usize) -> String {
-        let Check { counts, lengths, .. } = self.given;
+        let Check { counts, lengths, .. } = self.complex.given;
         format!("lattice {:?}, counts {counts:?}, lists of {lengths:?} places, output of {room}", self.size)
     }
 }
@@ -79,19 +61,6 @@ fn any_room(random: &mut Random, edges: usize) -> usize {
     random.pick(&[edges, edges, edges, rooms[2], rooms[4], rooms[5]])
 }
 
-/// Lengthens the lists by nothing or by up to some places: numbers of the list again, or junk.
-fn longer(random: &mut Random, mut check: Check) -> Check {
-    let most = random.pick(&[0, 0, 1, 40]);
-    for (list, length) in check.lists.iter_mut().zip(&mut check.lengths) {
-        for _ in 0..random.below(most + 1) {
-            let again = random.pick(list);
-            list.push(random.pick(&[again, again, 0, u32::MAX, random.0 as u32]));
-        }
-        *length = list.len();
-    }
-    check
-}
-
 /// What was compared.
 pub struct Edges<'a> {
     pub lattices: &'a Lattices,
@@ -104,10 +73,10 @@ impl Edges<'_> {
     fn types(&mut self, kind: &str, over: &mut Over, room: usize) {
         let before: Vec<u8> = (0..room).map(|place| (place % 250) as u8 + 5).collect();
         let mut output = Guarded::new(&before, GUARD_BYTE);
-        let lists = over.lent();
-        let number = unsafe { library::edge_types(over.size, over.counts.start(), lists, (output.start(), room)) };
+        let (counts, lists) = (over.complex.counts(), over.complex.lists());
+        let number = unsafe { library::edge_types(over.size, counts, lists, (output.start(), room)) };
         let (expected, values) = expected::filled(over.expected, expected::types, before);
-        let mut found = over.stray();
+        let mut found = over.complex.stray();
         found.extend(output.complaint("types"));
         found.extend(of_numbers("number", number as usize, expected as usize));
         found.extend(of_values("types", output.content(), &values));
@@ -118,12 +87,13 @@ impl Edges<'_> {
     fn lengths(&mut self, kind: &str, over: &mut Over, room: usize, units: Units) {
         let before: Vec<u64> = (0..room as u64).map(|place| 0x1357_0000_0000_0000 + place).collect();
         let mut output = Guarded::new(&before, GUARD_BITS);
-        let (counts, lists, lent) = (over.counts.start(), over.lent(), (output.start().cast(), room));
+        let (counts, lists) = (over.complex.counts(), over.complex.lists());
+        let lent = (output.start().cast(), room);
         let number = unsafe { library::flat_minkowski_sq_lengths(over.size, counts, lists, units, lent) };
         let values = |lattice: &FoliatedComplex| expected::lengths(lattice, units);
         let (expected, values) = expected::filled(over.expected, values, before);
         let ours: Vec<u64> = output.content().iter().map(|&bits| expected::bits(f64::from_bits(bits))).collect();
-        let mut found = over.stray();
+        let mut found = over.complex.stray();
         found.extend(output.complaint("lengths"));
         found.extend(of_numbers("number", number as usize, expected as usize));
         found.extend(of_values("lengths", &ours, &values));

@@ -1,7 +1,8 @@
 //! Compares our library's foliated_hypercubic with the altered Rust's pentachorons and its refusals with their table.
 use crate::guards::Guarded;
 use crate::tally::{Tally, of_numbers};
-use crate::{compare_built, differences, library};
+use crate::{compare_built, library};
+use calls::differences;
 use calls::random::Random;
 use lattices::expected::{self, Lattices, Listed};
 use lattices::sizes::{self, Size};

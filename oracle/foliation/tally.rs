@@ -1,18 +1,21 @@
 //! How many calls of each kind were to be answered with each number, and how many differ.
-use crate::differences::Differences;
+use calls::differences::Differences;
 
 /// The numbers with which a call is refused, in the order of the checks.
-const REFUSALS: [usize; 3] = [6, 7, 5];
+const REFUSALS: [usize; 5] = [6, 7, 8, 11, 5];
+
+/// How many calls were to be answered with each number.
+type Counts = [u64; 12];
 
 /// The kinds in the order of their first call, with the counts by number.
 #[derive(Default)]
 pub struct Tally {
-    kinds: Vec<(String, [u64; 8])>,
+    kinds: Vec<(String, Counts)>,
     pub differences: Differences,
 }
 
 /// The counts by number as text.
-fn shown(counts: &[u64; 8]) -> String {
+fn shown(counts: &Counts) -> String {
     let refused = REFUSALS.map(|number| (counts[number], format!(", {} refused with {number}", counts[number])));
     let refused: String = refused.into_iter().filter(|(count, _)| *count != 0).map(|(_, text)| text).collect();
     format!("{} answered{refused}", counts[0])
@@ -23,7 +26,7 @@ impl Tally {
     pub fn add(&mut self, kind: &str, number: u32, call: impl FnOnce() -> String, differences: &[String]) {
         let place = self.kinds.iter().position(|(name, _)| name == kind).unwrap_or(self.kinds.len());
         if place == self.kinds.len() {
-            self.kinds.push((kind.to_string(), [0; 8]));
+            self.kinds.push((kind.to_string(), [0; 12]));
         }
         self.kinds[place].1[number as usize] += 1;
         if !differences.is_empty() {
@@ -33,7 +36,7 @@ impl Tally {
 
     /// Prints a line for each kind and one for all.
     pub fn print(&self, name: &str) {
-        let mut all = [0; 8];
+        let mut all = [0; 12];
         for (kind, counts) in &self.kinds {
             println!("{name}, {kind}: {}", shown(counts));
             all.iter_mut().zip(counts).for_each(|(all, count)| *all += count);

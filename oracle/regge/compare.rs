@@ -1,4 +1,5 @@
 //! Compares our library with the two copies of the Rust, and freezes the altered copy's answers for a replay.
+mod distance;
 mod exact;
 mod freeze;
 mod ours;

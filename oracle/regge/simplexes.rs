@@ -57,12 +57,15 @@ fn uniform(random: &mut Random) -> Simplex {
     [(); 10].map(|()| random.between(low, high))
 }
 
-/// The squared lengths between five points: the squares of the coordinates' differences with these weights.
+/// The squared length between two points: the squares of the coordinates' differences with these weights.
+pub fn between(a: &[f64; 4], b: &[f64; 4], weights: [f64; 4]) -> f64 {
+    let square = |k: usize| weights[k] * ((a[k] - b[k]) * (a[k] - b[k]));
+    square(0) + square(1) + square(2) + square(3)
+}
+
+/// The squared lengths between five points.
 fn between_points(points: &[[f64; 4]; 5], weights: [f64; 4]) -> Simplex {
-    EDGES.map(|(a, b)| {
-        let square = |k: usize| weights[k] * ((points[a][k] - points[b][k]) * (points[a][k] - points[b][k]));
-        square(0) + square(1) + square(2) + square(3)
-    })
+    EDGES.map(|(a, b)| between(&points[a], &points[b], weights))
 }
 
 /// Five points of a cube of any size.
@@ -72,7 +75,7 @@ fn points(random: &mut Random) -> [[f64; 4]; 5] {
 }
 
 /// The weights of Minkowski space, of either signature.
-fn signature(random: &mut Random) -> [f64; 4] {
+pub fn signature(random: &mut Random) -> [f64; 4] {
     let sign = random.sign();
     [-sign, sign, sign, sign]
 }

@@ -1,7 +1,5 @@
 //! What was compared, what differed, and how far the unaltered Rust is from us.
-
-/// A number and its kind: 0 Spacelike, 1 Timelike; 0 for a number that has none.
-pub type Angle = (f64, u8);
+use crate::distance::{Angle, Distance, agree};
 
 /// How many differences of a function are printed.
 const PRINTED: u64 = 5;
@@ -16,44 +14,6 @@ pub struct Tally {
     refused: u64,
     pub differences: u64,
     distance: Distance,
-}
-
-/// How far the unaltered Rust's answers are from ours.
-#[derive(Default)]
-struct Distance {
-    differing: u64,
-    apart: u64,
-    kinds: u64,
-    absolute: f64,
-    ulps: u64,
-}
-
-impl Distance {
-    /// Takes one answer into account; where a side is NaN or infinite, the answer is only counted.
-    fn add(&mut self, ours: Angle, theirs: Angle) {
-        self.kinds += u64::from(ours.1 != theirs.1);
-        if agree(ours.0, theirs.0) {
-            return;
-        }
-        self.differing += 1;
-        if !ours.0.is_finite() || !theirs.0.is_finite() {
-            self.apart += 1;
-            return;
-        }
-        self.absolute = self.absolute.max((ours.0 - theirs.0).abs());
-        self.ulps = self.ulps.max(rank(ours.0).abs_diff(rank(theirs.0)));
-    }
-}
-
-/// Whether two answers agree: any NaN agrees with any NaN.
-pub fn agree(a: f64, b: f64) -> bool {
-    a.to_bits() == b.to_bits() || (a.is_nan() && b.is_nan())
-}
-
-/// A double's place in the order of all doubles; both zeros have place 0.
-fn rank(x: f64) -> i64 {
-    let size = (x.to_bits() & !(1 << 63)) as i64;
-    if x.is_sign_negative() { -size } else { size }
 }
 
 /// The bit patterns of some numbers.
@@ -139,11 +99,7 @@ impl Tally {
 
     /// Prints the unaltered Rust's distance.
     pub fn print_distance(&self) {
-        let Distance { differing, apart, kinds, absolute, ulps } = &self.distance;
-        println!(
-            "{}: {differing} of {} answers differ: {apart} NaN or infinite on one side, the others at most by {absolute:e} and {ulps} ulps; {kinds} kinds differ",
-            self.name, self.answers
-        );
+        self.distance.print(self.name);
     }
 }
 

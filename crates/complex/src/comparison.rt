@@ -166,9 +166,9 @@ fn has_adjacency(
     )
 }
 
-// Whether counts and lists are what the builder answers and writes. The numbers of the edges and triangles of each pentachoron
-// are noted.
-fn is_built_noting(
+// Whether a complex is built, for a caller with scratch of its own: where it is, the numbers of the edges and triangles of each
+// pentachoron are noted; where it is not, what the two lists hold is left free.
+pub fn is_built_noting(
     counts: Counts,
     pents: &[u32],
     edges: &[u32],

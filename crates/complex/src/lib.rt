@@ -12,6 +12,7 @@ mod sorting;
 use checks::Rooms;
 pub use comparison::check_built;
 pub use comparison::is_built;
+pub use comparison::is_built_noting;
 pub use incidence::EdgeNumber;
 pub use incidence::Opposite;
 pub use incidence::PentachoronNumber;

@@ -18,38 +18,38 @@ use Rattle.lorentzian_regge.specs.Calls.{lengthsCheckOf, builtCheckOf, roomChec
 use Rattle.exports.specs.Complexes.{countsOfList}
 
 -- the face lists of a complex with its counts in plain numbers
-abbrev pub facesOf : List ℕ → Lists → FaceLists
-facesOf counts l = facesIn (countsOfList counts) (l .pents) (l .edges) (l .triangles)
+abbrev pub facesLent : List ℕ → Lists → FaceLists
+facesLent counts l = facesIn (countsOfList counts) (l .pents) (l .edges) (l .triangles)
 
 -- what the checks say: 7, then 8, then the others
-abbrev pub checkOf : List ℕ → Lists → List Float → Outcome → Outcome
-checkOf counts l ls others = builtCheckOf (countsOfList counts) l (lengthsCheckOf (countsOfList counts) (length ls) others)
+abbrev pub callCheckOf : List ℕ → Lists → List Float → Outcome → Outcome
+callCheckOf counts l ls others = builtCheckOf (countsOfList counts) l (lengthsCheckOf (countsOfList counts) (length ls) others)
 
 -- all hinges: the answer as a number, and both lists after the call
 pub record Tabled (counts : List ℕ) (l : Lists) (ls ds : List Float) (ks : List ℕ) (r : ℕ) (ds′ : List Float) (ks′ : List ℕ) : Type 0 where
   pub answer : Outcome
-  pub tabled : Calls.Tabled (checkOf counts l ls (roomCheckOf (shortTable (countsOfList counts) (length ds) (length ks)))) (facesOf counts l) ls ds ks answer ds′ ks′
+  pub tabled : Calls.Tabled (callCheckOf counts l ls (roomCheckOf (shortTable (countsOfList counts) (length ds) (length ks)))) (facesLent counts l) ls ds ks answer ds′ ks′
   pub numbered : r ≡ outcomeNumber answer
 
 -- one hinge: the answer as a number, and the deficit and the kind's byte after the call
-pub record HingeOf (counts : List ℕ) (l : Lists) (ls : List Float) (t : ℕ) (deficit : Float) (kind r : ℕ) (deficit′ : Float) (kind′ : ℕ) : Type 0 where
+pub record HingeCall (counts : List ℕ) (l : Lists) (ls : List Float) (t : ℕ) (deficit : Float) (kind r : ℕ) (deficit′ : Float) (kind′ : ℕ) : Type 0 where
   pub answer : HingeAnswer
-  pub answered : answer ≡ hingeBy (checkOf counts l ls (triangleCheckOf (countsOfList counts) t)) (hingeIn (hinges (facesOf counts l) ls) t)
+  pub answered : answer ≡ hingeBy (callCheckOf counts l ls (triangleCheckOf (countsOfList counts) t)) (hingeIn (hinges (facesLent counts l) ls) t)
   pub numbered : r ≡ hingeNumber answer
-  pub deficits : deficit′ ≡ deficitOr answer deficit
-  pub kinds : kind′ ≡ kindByteOr answer kind
+  pub deficit-left : deficit′ ≡ deficitOr answer deficit
+  pub kind-left : kind′ ≡ kindByteOr answer kind
 
 -- the action: the answer as a number, and the action after the call
-pub record ActionOf (counts : List ℕ) (l : Lists) (ls : List Float) (action : Float) (r : ℕ) (action′ : Float) : Type 0 where
+pub record ActionCall (counts : List ℕ) (l : Lists) (ls : List Float) (action : Float) (r : ℕ) (action′ : Float) : Type 0 where
   pub answer : ActionAnswer
-  pub answered : answer ≡ actionBy (checkOf counts l ls Done) (Action.action (facesOf counts l) ls)
+  pub answered : answer ≡ actionBy (callCheckOf counts l ls Done) (Action.action (facesLent counts l) ls)
   pub numbered : r ≡ actionNumber answer
   pub valued : action′ ≡ actionOr answer action
 
 -- the gradient: the answer as a number, and the list after the call
 pub record Graded (counts : List ℕ) (l : Lists) (ls grad : List Float) (r : ℕ) (grad′ : List Float) : Type 0 where
   pub answer : Outcome
-  pub graded : Calls.Graded (checkOf counts l ls (roomCheckOf (shortGradient (countsOfList counts) (length grad)))) (facesOf counts l) ls grad answer grad′
+  pub graded : Calls.Graded (callCheckOf counts l ls (roomCheckOf (shortGradient (countsOfList counts) (length grad)))) (facesLent counts l) ls grad answer grad′
   pub numbered : r ≡ outcomeNumber answer
 
 -- the counts of signs as numbers

@@ -1,5 +1,5 @@
 // Hinges, action, gradient and length signs for C. A refused call returns the refusal's number, whose place is 0, and changes
-// nothing; an answer returns 0.
+// nothing; an answer returns 0. A kind is 0 for Spacelike and 1 for Timelike.
 use crate::counts_of;
 use complex::TriangleNumber;
 use lorentzian_regge::LengthSigns;
@@ -11,9 +11,8 @@ use lorentzian_regge::lorentzian_regge_action_grad;
 ghost use mathlib.Core.Path.{_≡_};
 ghost use Rattle.complex.specs.Builder.{lists};
 ghost use Rattle.lorentzian_regge.specs.LengthSigns.{signsOf};
-ghost use Rattle.exports.specs.Hinges.{Tabled, HingeOf, ActionOf, Graded, signsList};
+ghost use Rattle.exports.specs.Hinges.{Tabled, HingeCall, ActionCall, Graded, signsList};
 
-// A kind is 0 for Spacelike and 1 for Timelike.
 #[no_mangle]
 pub extern "C" fn cjapthumi_lorentzian_deficit_angles<'a>(
     counts: &'a [usize; 5],
@@ -73,7 +72,7 @@ pub extern "C" fn cjapthumi_lorentzian_deficit_angle<'a>(
     deficit: &mut f64,
     kind: &mut u8,
 ) -> u32
-    ensures { λ r. ⌜ HingeOf (now (counts .entry)) (lists (now (pents .entry)) (now (edges .entry)) (now (triangles .entry)) (now (tets .entry))
+    ensures { λ r. ⌜ HingeCall (now (counts .entry)) (lists (now (pents .entry)) (now (edges .entry)) (now (triangles .entry)) (now (tets .entry))
         (now («tri_to_pents_items» .entry)) (now («tri_to_pents_starts» .entry)) (now («edge_to_tris_items» .entry)) (now («edge_to_tris_starts» .entry))
         (now («edge_to_pents_items» .entry)) (now («edge_to_pents_starts» .entry)))
         (now («sq_lengths» .entry)) tri (now (deficit .entry)) (now (kind .entry)) r (now (deficit .exit)) (now (kind .exit)) ⌝ }
@@ -94,7 +93,7 @@ pub extern "C" fn cjapthumi_lorentzian_deficit_angle<'a>(
         TriangleNumber(tri),
     );
     *deficit = answer.deficit_or(*deficit);
-    *kind = answer.kind_or(*kind);
+    *kind = answer.kind_byte_or(*kind);
     answer.number()
 }
 
@@ -114,7 +113,7 @@ pub extern "C" fn cjapthumi_lorentzian_regge_action<'a>(
     sq_lengths: &'a [f64],
     action: &mut f64,
 ) -> u32
-    ensures { λ r. ⌜ ActionOf (now (counts .entry)) (lists (now (pents .entry)) (now (edges .entry)) (now (triangles .entry)) (now (tets .entry))
+    ensures { λ r. ⌜ ActionCall (now (counts .entry)) (lists (now (pents .entry)) (now (edges .entry)) (now (triangles .entry)) (now (tets .entry))
         (now («tri_to_pents_items» .entry)) (now («tri_to_pents_starts» .entry)) (now («edge_to_tris_items» .entry)) (now («edge_to_tris_starts» .entry))
         (now («edge_to_pents_items» .entry)) (now («edge_to_pents_starts» .entry)))
         (now («sq_lengths» .entry)) (now (action .entry)) r (now (action .exit)) ⌝ }
@@ -179,7 +178,7 @@ pub extern "C" fn cjapthumi_lorentzian_regge_action_grad<'a>(
 // `signs` gets the counts of timelike, null and spacelike lengths.
 #[no_mangle]
 pub extern "C" fn cjapthumi_length_signs(sq_lengths: &[f64], signs: &mut [usize; 3])
-    ensures { λ r. ⌜ now (signs .exit) ≡ signsList (signsOf (now («sq_lengths» .entry))) ⌝ }
+    ensures { λ _. ⌜ now (signs .exit) ≡ signsList (signsOf (now («sq_lengths» .entry))) ⌝ }
 {
     *signs = signs_list(length_signs(sq_lengths));
 }

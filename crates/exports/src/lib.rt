@@ -420,7 +420,7 @@ fn lattice_of(n_t: usize, n_s: usize) -> Lattice
 }
 
 // Five numbers as counts.
-pub fn counts_of(c: [usize; 5]) -> Counts
+fn counts_of(c: [usize; 5]) -> Counts
     ensures { λ r. ⌜ r ≡ countsOfList c ⌝ }
 {
     Counts {

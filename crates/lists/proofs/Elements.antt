@@ -6,7 +6,7 @@ use mathlib.Core.List.{List, [], _∷_, _++_, map, map-append, map-id, reverse, 
 use Prim.Native.Nat.{ℕ, zero, suc, _+_, _*_, _/_, _%_, _≤_, _<_, suc-le-suc}
 use native.Mathlib.Nat.{le-of-suc-le-suc, not-suc-le-zero, zero-lt-suc, add-zero, add-suc, mul-zero, mul-suc, mod-eq-of-lt, div-eq-of-lt, mul-add-div, mul-add-mod-self-left}
 use native.Mathlib.Omega.{arith}
-use lib.ListN.{length, getD, length-append, length-map, List·getD-append}
+use lib.ListN.{length, getD, replicate, length-append, length-map, List·getD-append}
 use lib.Seq.{getD-append-seam, getD-append-add, ext-getD}
 use Rattle.lists.specs.Lists.{keep, gather, upto, among, within, Within, Rising, Once}
 use Rattle.lists.proofs.Tests.{Says, pass, fail, eqb-says, ltb-says, and-says, or-says}
@@ -23,6 +23,12 @@ module _ {A : Type 0} where
   mem-getD d (List·Memᴰ·head {xs = xs} e) = (zero, zero-lt-suc (length xs), sym e)
   mem-getD d {a = a} (List·Memᴰ·tail {xs = xs} m) =
       let r : (i : ℕ) × (i < length xs) × (getD xs i d ≡ a) = mem-getD d m in (suc (r .0), suc-le-suc (r .1), r .2)
+
+  -- what stands for a missing element does not matter where there is one
+  pub getD-any : (xs : List A) (i : ℕ) (d e : A) → i < length xs → getD xs i d ≡ getD xs i e
+  getD-any [] i d e h = absurd (not-suc-le-zero h)
+  getD-any (x ∷ xs) zero d e h = refl
+  getD-any (x ∷ xs) (suc i) d e h = getD-any xs i d e (le-of-suc-le-suc h)
 
   -- ---- `keep`
 
@@ -186,6 +192,20 @@ upto-add n (suc m) =
 -- a table of a rule: its entries
 pub getD-table : {B : Type 0} (f : ℕ → B) (n i : ℕ) (d : B) → i < n → getD (map f (upto n)) i d ≡ f i
 getD-table f n i d h = getD-map f (upto n) i zero d (rw length-upto h) ∙ ap f (getD-upto n i zero h)
+
+-- the same value at every place
+pub map-const : {A : Type 0} (a : A) (n : ℕ) → map (λ i. a) (upto n) ≡ replicate n a
+unfolding upto
+map-const a zero = refl
+map-const a (suc n) = map-append (λ i. a) (upto n) (n ∷ []) ∙ ap (λ r. r ++ a ∷ []) (map-const a n) ∙ snoc n
+  where
+    snoc : (n : ℕ) → replicate n a ++ a ∷ [] ≡ a ∷ replicate n a
+    snoc zero = refl
+    snoc (suc n) = ap (λ r. a ∷ r) (snoc n)
+
+pub map-replicate : {A B : Type 0} (g : A → B) (n : ℕ) (a : A) → map g (replicate n a) ≡ replicate n (g a)
+map-replicate g zero a = refl
+map-replicate g (suc n) a = ap (λ r. g a ∷ r) (map-replicate g n a)
 
 -- a list by its places
 pub map-upto : {A B : Type 0} (f : A → B) (xs : List A) (d : A) (e : B) → map f xs ≡ map (λ i. f (getD xs i d)) (upto (length xs))

@@ -7,7 +7,7 @@ use Prim.Native.Nat.{ℕ, zero, suc, _+_, _*_, _-_, _≤_, _<_}
 use native.Mathlib.Nat.{le-of-suc-le-suc, not-suc-le-zero, add-zero, mul-suc, mul-zero, mul-le-mul-left}
 use native.Mathlib.Omega.{arith}
 use native.Mathlib.Numerals.{add-one}
-use lib.ListN.{length, getD, take, drop, set, replicate, length-append, length-drop, length-map, take-append-drop}
+use lib.ListN.{length, getD, take, drop, set, length-append, length-drop, length-map, take-append-drop}
 use lib.Seq.{drop-drop, getD-take, getD-drop, getD-append-add, set-split, take-take, take-suc, take-add, take-at, drop-at, length-take-le, take-all, take-length, slice, take-append-add, take-append-seam, drop-append-seam}
 use Rattle.lists.specs.Lists.{gather, upto}
 use Rattle.lists.specs.Rows.{flat, rows, Wide, startsFrom, starts, over, begins}
@@ -229,20 +229,6 @@ read-next {A} f old k d =
     ∙ getD-append-add (map f (upto k)) (drop k old) 0 d
     ∙ getD-drop k old 0 d
     ∙ ap (λ (i : ℕ). getD old i d) (add-zero k)
-
--- the same value at every place
-pub map-const : {A : Type 0} (a : A) (n : ℕ) → map (λ i. a) (upto n) ≡ replicate n a
-unfolding upto
-map-const a zero = refl
-map-const a (suc n) = map-append (λ i. a) (upto n) (n ∷ []) ∙ ap (λ r. r ++ a ∷ []) (map-const a n) ∙ snoc n
-  where
-    snoc : (n : ℕ) → replicate n a ++ a ∷ [] ≡ a ∷ replicate n a
-    snoc zero = refl
-    snoc (suc n) = ap (λ r. a ∷ r) (snoc n)
-
-pub map-replicate : {A B : Type 0} (g : A → B) (n : ℕ) (a : A) → map g (replicate n a) ≡ replicate n (g a)
-map-replicate g zero a = refl
-map-replicate g (suc n) a = ap (λ r. g a ∷ r) (map-replicate g n a)
 
 -- a rule for rows of two numbers, by their places
 pub map-pairs : {A : Type 0} (h : ℕ → ℕ → A) (n : ℕ) (xs : List ℕ) → map (λ e. h (getD e 0 0) (getD e 1 0)) (rows 2 n xs) ≡ map (λ k. h (getD xs (2 * k) 0) (getD xs (2 * k + 1) 0)) (upto n)

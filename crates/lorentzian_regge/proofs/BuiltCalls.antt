@@ -1,13 +1,13 @@
 -- What a call over a complex has where its checks let it pass, and what it answers where they don't. Assumes nothing.
-use Prim.Native.Nat.{ℕ, _*_, _≤_, _<_}
+use Prim.Native.Nat.{ℕ, _≤_, _<_}
 use mathlib.Core.Path.{_≡_, refl, sym, ap, _∙_, subst}
-use mathlib.Core.Bool.{Bool, true, false, not, cond, _||_}
+use mathlib.Core.Bool.{Bool, true, false, not, cond}
 use mathlib.Core.List.{List, map, List·Memᴰ}
 use native.Mathlib.Omega.{arith}
 use lib.Dec.{eqb, ltb}
-use lib.ListN.{length, replicate, length-replicate}
+use lib.ListN.{length}
 use lib.Ieee.{Float}
-use borrow.Author.Tests.{eqb-true, ltb-true, le-ltb, not-false}
+use borrow.Author.Tests.{eqb-true, ltb-true, not-false}
 use Rattle.refusals.specs.declared.Refusal.{Refusal}
 use Rattle.refusals.specs.declared.Refusal.the-variants.{ShortRoom, NotBuilt, LengthCount, BadIndex}
 use Rattle.refusals.specs.declared.Outcome.{Outcome}
@@ -15,12 +15,12 @@ use Rattle.refusals.specs.declared.Outcome.the-variants.{Done, Refused}
 use Rattle.lists.specs.Lists.{upto}
 use Rattle.lists.proofs.Tests.{said}
 use Rattle.lists.proofs.Keys.{firsts-room}
-use Rattle.lists.proofs.Rows.{length-rows, begins-over}
+use Rattle.lists.proofs.Rows.{length-rows}
 use Rattle.complex.specs.declared.Counts.{Counts}
 use Rattle.complex.specs.declared.numbering.Face.the-variants.{Edge, Triangle}
-use Rattle.complex.specs.Complex.{metFaces, faces, numbersOf, triangles, triToPents}
+use Rattle.complex.specs.Complex.{metFaces, faces, triangles, triToPents}
 use Rattle.complex.specs.Builder.{Lists}
-use Rattle.complex.specs.Check.{pentsIn, isBuilt, checkedOf, Checked, writtenAfter}
+use Rattle.complex.specs.Check.{pentsIn, isBuilt}
 use Rattle.complex.proofs.Offences.{cond-done}
 use Rattle.complex.proofs.Meetings.{length-met}
 use Rattle.complex.proofs.Lying.{faces-has, edge-of-triangle}
@@ -96,52 +96,14 @@ triangle-passed c t h = ltb-true t (c .triangles) (go (ltb t (c .triangles)) h)
     go true e = refl
     go false e = absurd (done-not-refused (sym e))
 
--- ---- the check of the complex, with two lists of scratch that have room for any
+-- ---- the check of the complex
 
-module _ (c : Counts) (l : Lists) (m : ℕ) (large : m ≡ 81920) (pe pt : List ℕ) (es : pe ≡ replicate m 0) (ts : pt ≡ replicate m 0) (r : Outcome) (pe′ pt′ : List ℕ) (k : Checked c l pe pt r pe′ pt′) where
-  -- 7 is all that it refuses
-  seven : checkedOf c l (length pe) (length pt) ≡ builtCheckOf c l Done
-  unfolding checkedOf builtCheckOf
-  seven = go (isBuilt c l) refl
-    where
-      room : isBuilt c l ≡ true → (ltb (length pe) (10 * c .pentachorons) ≡ false) × (ltb (length pt) (10 * c .pentachorons) ≡ false)
-      room h =
-          let b = said (built-says c l) h in (
-            le-ltb (length pe) (10 * c .pentachorons) (omega (arith, ap length es, length-replicate {A = ℕ} m 0, b .few)),
-            le-ltb (length pt) (10 * c .pentachorons) (omega (arith, ap length ts, length-replicate {A = ℕ} m 0, b .few)),
-          )
+-- what is not built is refused with 7
+pub not-built : (c : Counts) (l : Lists) (others : Outcome) → isBuilt c l ≡ false → builtCheckOf c l others ≡ Refused NotBuilt
+unfolding builtCheckOf
+not-built c l others e = rw e refl
 
-      go : (b : Bool) → isBuilt c l ≡ b
-          → cond (not (isBuilt c l)) (Refused NotBuilt) (cond (ltb (length pe) (10 * c .pentachorons) || ltb (length pt) (10 * c .pentachorons)) (Refused ShortRoom) Done)
-          ≡ cond (not (isBuilt c l)) (Refused NotBuilt) Done
-      go true h = let s = room h in rw (h, s .0, s .1) refl
-      go false h = rw h refl
-
-  -- it refuses what is not built
-  pub not-built : (x : Refusal) (others : Outcome) → r ≡ Refused x → builtCheckOf c l others ≡ Refused x
-  unfolding builtCheckOf
-  not-built x others e = go (isBuilt c l) (sym seven ∙ sym (k .answered) ∙ e)
-    where
-      go : (b : Bool) → cond (not b) (Refused NotBuilt) Done ≡ Refused x → cond (not b) (Refused NotBuilt) others ≡ Refused x
-      go true h = absurd (done-not-refused h)
-      go false h = h
-
-  is-built : r ≡ Done → isBuilt c l ≡ true
-  unfolding builtCheckOf
-  is-built e = not-false (isBuilt c l) (cond-done (not (isBuilt c l)) NotBuilt Done (sym seven ∙ sym (k .answered) ∙ e) .0)
-
-  -- what passes is built, and its numbers are noted
-  pub built-with : r ≡ Done → BuiltWith c l pe′ pt′
-  built-with e =
-      record {
-        built = is-built e;
-        noted = record {
-          edges = begins-over (numbersOf Edge (pentsIn c (l .pents))) pe pe′ (k .edges ∙ ap (λ (o : Outcome). writtenAfter o (numbersOf Edge (pentsIn c (l .pents))) pe) e);
-          triangles = begins-over (numbersOf Triangle (pentsIn c (l .pents))) pt pt′ (k .triangles ∙ ap (λ (o : Outcome). writtenAfter o (numbersOf Triangle (pentsIn c (l .pents))) pt) e);
-        };
-      }
-
-  -- then the other checks decide
-  pub others-decide : (others : Outcome) → r ≡ Done → builtCheckOf c l others ≡ others
-  unfolding builtCheckOf
-  others-decide others e = rw (is-built e) refl
+-- where it is built the other checks decide
+pub others-decide : (c : Counts) (l : Lists) (others : Outcome) → isBuilt c l ≡ true → builtCheckOf c l others ≡ others
+unfolding builtCheckOf
+others-decide c l others e = rw e refl

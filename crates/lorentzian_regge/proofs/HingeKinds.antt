@@ -16,7 +16,7 @@ use Rattle.lorentzian.specs.Dihedral.{kindOf}
 use Rattle.lorentzian_regge.specs.declared.hinge.Hinge.{Hinge}
 use Rattle.lorentzian_regge.specs.declared.hinge.KindByte.{KindByte}
 use Rattle.lorentzian_regge.specs.declared.hinge.KindByte.the-variants.{Kind, NoKind}
-use Rattle.lorentzian_regge.specs.Hinges.{FaceLists, byteOf, kindIn, kindOr, pi, deficitOf, first, closed, hinge, hinges, hingeIn, dihedralIn}
+use Rattle.lorentzian_regge.specs.Hinges.{FaceLists, byteOf, kindIn, knownOr, pi, deficitOf, first, closed, hinge, hinges, hingeIn, dihedralIn}
 use Rattle.lorentzian_regge.proofs.OnePass.{hinge-in}
 
 -- ---- the kind of a hinge
@@ -30,7 +30,7 @@ first-stays k (d ∷ ds) = first-stays k ds
 -- the first dihedral decides
 pub kind-first : (d : Dihedral) (ds : List Dihedral) → hinge (d ∷ ds) .kind ≡ kindOf d
 unfolding hinge closed first
-kind-first d ds = ap (λ (k : KindByte). kindOr k Spacelike) (first-stays (kindOf d) ds)
+kind-first d ds = ap (λ (k : KindByte). knownOr k Spacelike) (first-stays (kindOf d) ds)
 
 pub kind-none : hinge [] .kind ≡ Spacelike
 unfolding hinge closed
@@ -54,9 +54,9 @@ kind-byte NoKind = refl
 -- ---- doubles
 
 -- the 2.0 * PI of a Spacelike deficit
-pub turn : two ⊗ pi ≡ dbl 0x4019_21fb_5444_2d18
+pub two-pi : two ⊗ pi ≡ dbl 0x4019_21fb_5444_2d18
 unfolding ofBits mul
-turn = refl
+two-pi = refl
 
 -- the deficit of a Timelike hinge of sum 0 is -0.0
 pub timelike-zero : deficitOf Timelike Ops.zero ≡ dbl 0x8000_0000_0000_0000

@@ -25,22 +25,22 @@ use Rattle.complex.proofs.Incident.{simplices-of}
 use Rattle.lorentzian.specs.declared.dihedral.Dihedral.{Dihedral}
 use Rattle.lorentzian_regge.specs.declared.hinge.KindByte.{KindByte}
 use Rattle.lorentzian_regge.specs.declared.hinge.KindByte.the-variants.{NoKind}
-use Rattle.lorentzian_regge.specs.Hinges.{FaceLists, builtFaces, plus, first, closed, hinge, pentLengths, dihedralOf, pairs, without, dihedrals, allDihedrals, sums, firstKinds, hinges, hingeIn, dihedralIn, hingeAt}
+use Rattle.lorentzian_regge.specs.Hinges.{FaceLists, builtFaces, plus, first, closed, hinge, pentLengths, dihedralOf, localPairs, without, dihedrals, passDihedrals, sums, firstKinds, hinges, hingeIn, dihedralIn, hingeAt}
 
 -- ---- the local indices of a pentachoron
 
 -- a pair is the indices that it names
-named : (lm : List ℕ) → List·Memᴰ lm pairs → keep (λ v. among v lm) (upto 5) ≡ lm
+named : (lm : List ℕ) → List·Memᴰ lm localPairs → keep (λ v. among v lm) (upto 5) ≡ lm
 unfolding combos upto keep among
-named lm m = map-at (λ lm. keep (λ v. among v lm) (upto 5)) (λ lm. lm) [] pairs refl m
+named lm m = map-at (λ lm. keep (λ v. among v lm) (upto 5)) (λ lm. lm) [] localPairs refl m
 
 -- the triples of five vertices are what the pairs leave, from the last pair on
-triples : (p : List ℕ) → length p ≡ 5 → combos p 3 ≡ map (without p) (reverse pairs)
+triples : (p : List ℕ) → length p ≡ 5 → combos p 3 ≡ map (without p) (reverse localPairs)
 unfolding combos upto keep among without
 triples p h = rw (five-of p h) refl
 
 -- the vertices that are not in what a pair leaves are the pair's own
-left-indices : (p lm : List ℕ) → Rising p → length p ≡ 5 → List·Memᴰ lm pairs → oppositeIndices p (without p lm) ≡ lm
+left-indices : (p lm : List ℕ) → Rising p → length p ≡ 5 → List·Memᴰ lm localPairs → oppositeIndices p (without p lm) ≡ lm
 unfolding oppositeIndices without
 left-indices p lm r l m =
     ap (λ (n : ℕ). keep (λ v. not (among (getD p v 0) (without p lm))) (upto n)) l
@@ -82,32 +82,32 @@ module _ (F : FaceLists) (ls : List Float) (ok : Simplices (F .pents) (F .triang
       value : List ℕ → Dihedral
       value lm = dihedralOf (pentLengths F ls p) lm
 
-      own : (lm : List ℕ) → List·Memᴰ lm pairs → without p lm ≡ s → oppositeIndices p s ≡ lm
+      own : (lm : List ℕ) → List·Memᴰ lm localPairs → without p lm ≡ s → oppositeIndices p s ≡ lm
       own lm n e = ap (oppositeIndices p) (sym e) ∙ left-indices p lm (ok .pentachoron p m) (five p m) n
 
-      one : (lm : List ℕ) → List·Memᴰ lm pairs → without p lm ≡ s → hits t (map (λ lm. (number lm, value lm)) pairs) ≡ value (oppositeIndices p s) ∷ []
+      one : (lm : List ℕ) → List·Memᴰ lm localPairs → without p lm ≡ s → hits t (map (λ lm. (number lm, value lm)) localPairs) ≡ value (oppositeIndices p s) ∷ []
       one lm n e =
-          hits-one t number value pairs lm (combos-once (upto 5) 2 (upto-rising 5)) n (ap (λ (u : List ℕ). find u (F .triangles)) e ∙ ok .distinct t h)
+          hits-one t number value localPairs lm (combos-once (upto 5) 2 (upto-rising 5)) n (ap (λ (u : List ℕ). find u (F .triangles)) e ∙ ok .distinct t h)
           (λ x k q. sym (own x k (sym (stands t (without p x) h q))) ∙ own lm n e)
           ∙ ap (λ (u : List ℕ). value u ∷ []) (sym (own lm n e))
 
-      go : {b : Bool} → Says (Within s p) b → hits t (map (λ lm. (number lm, value lm)) pairs) ≡ cond b (value (oppositeIndices p s) ∷ []) []
+      go : {b : Bool} → Says (Within s p) b → hits t (map (λ lm. (number lm, value lm)) localPairs) ≡ cond b (value (oppositeIndices p s) ∷ []) []
       go (pass w) =
           let g : Rising s × (length s ≡ 3) = ok .triangle s (getD-mem (F .triangles) t [] h) in
-          let c : List·Memᴰ s (map (without p) (reverse pairs)) = subst (λ (l : List (List ℕ)). List·Memᴰ s l) (triples p (five p m)) (combos-has p 3 s (ok .pentachoron p m) (g .0) (g .1) w) in
-          let q : (lm : List ℕ) × List·Memᴰ lm (reverse pairs) × (without p lm ≡ s) = Memᴰ·of-map (without p) (reverse pairs) c in
-          one (q .0) (mem-reverse pairs (q .1)) (q .2)
+          let c : List·Memᴰ s (map (without p) (reverse localPairs)) = subst (λ (l : List (List ℕ)). List·Memᴰ s l) (triples p (five p m)) (combos-has p 3 s (ok .pentachoron p m) (g .0) (g .1) w) in
+          let q : (lm : List ℕ) × List·Memᴰ lm (reverse localPairs) × (without p lm ≡ s) = Memᴰ·of-map (without p) (reverse localPairs) c in
+          one (q .0) (mem-reverse localPairs (q .1)) (q .2)
       go (fail f) =
-          hits-none t (map (λ lm. (number lm, value lm)) pairs)
+          hits-none t (map (λ lm. (number lm, value lm)) localPairs)
           (λ a n e.
-          let q : (lm : List ℕ) × List·Memᴰ lm pairs × ((number lm, value lm) ≡ a) = Memᴰ·of-map (λ lm. (number lm, value lm)) pairs n in
+          let q : (lm : List ℕ) × List·Memᴰ lm localPairs × ((number lm, value lm) ≡ a) = Memᴰ·of-map (λ lm. (number lm, value lm)) localPairs n in
           let same : s ≡ without p (q .0) = stands t (without p (q .0)) h (ap (λ (b : ℕ × Dihedral). b .0) (q .2) ∙ e) in
-          let c : List·Memᴰ (without p (q .0)) (combos p 3) = subst (λ (l : List (List ℕ)). List·Memᴰ (without p (q .0)) l) (sym (triples p (five p m))) (Memᴰ·map (without p) (reverse-mem pairs (q .1))) in
+          let c : List·Memᴰ (without p (q .0)) (combos p 3) = subst (λ (l : List (List ℕ)). List·Memᴰ (without p (q .0)) l) (sym (triples p (five p m))) (Memᴰ·map (without p) (reverse-mem localPairs (q .1))) in
           f (subst (λ (u : List ℕ). Within u p) (sym same) (combos-within p 3 c)))
 
   -- the dihedrals that the pass hands to triangle t are those of its pentachorons, in their order
-  pub hits-all : (t : ℕ) → t < length (F .triangles) → hits t (allDihedrals F ls) ≡ map (dihedralIn F ls (getD (F .triangles) t [])) (holding (F .pents) (getD (F .triangles) t []))
-  unfolding allDihedrals holding dihedralIn
+  pub hits-all : (t : ℕ) → t < length (F .triangles) → hits t (passDihedrals F ls) ≡ map (dihedralIn F ls (getD (F .triangles) t [])) (holding (F .pents) (getD (F .triangles) t []))
+  unfolding passDihedrals holding dihedralIn
   hits-all t h =
       ap (hits t) (gather-places (dihedrals F ls) (F .pents) [])
       ∙ hits-keep t (λ i. dihedrals F ls (getD (F .pents) i [])) (dihedralIn F ls (getD (F .triangles) t [])) (λ i. within (getD (F .triangles) t []) (getD (F .pents) i [])) (upto (length (F .pents)))
@@ -119,8 +119,8 @@ module _ (F : FaceLists) (ls : List Float) (ok : Simplices (F .pents) (F .triang
   unfolding firstKinds sums hinge
   closed-at t h =
       rw (
-        scatter-at NoKind first (allDihedrals F ls) (replicate (length (F .triangles)) NoKind) t (rw length-replicate h),
-        scatter-at nan plus (allDihedrals F ls) (replicate (length (F .triangles)) Ops.zero) t (rw length-replicate h),
+        scatter-at NoKind first (passDihedrals F ls) (replicate (length (F .triangles)) NoKind) t (rw length-replicate h),
+        scatter-at nan plus (passDihedrals F ls) (replicate (length (F .triangles)) Ops.zero) t (rw length-replicate h),
         hits-all t h,
         getD-replicate {A = KindByte} (length (F .triangles)) t NoKind NoKind h,
         getD-replicate (length (F .triangles)) t Ops.zero nan h,

@@ -21,7 +21,7 @@ use Rattle.complex.specs.declared.Counts.{Counts}
 use Rattle.complex.specs.Check.{edgesIn, trianglesIn}
 use Rattle.complex.proofs.FaceNumbers.{three-edges}
 use Rattle.lorentzian_regge.specs.Hinges.{FaceLists, facesIn, hinges, deficitsOf}
-use Rattle.lorentzian_regge.specs.Action.{edgesAt, triLengths, absArea, areaLimit, actionOf, action, three, pullOf, pullsOf, pulls, gradientOf, gradient}
+use Rattle.lorentzian_regge.specs.Action.{edgesAt, triLengths, absArea, areaLimit, actionOf, action, atThree, contributionOf, contributionsOf, contributions, gradientOf, gradient}
 use Rattle.lorentzian_regge.specs.Parts.{Measured}
 use Rattle.lorentzian_regge.proofs.TriangleSteps.{edges-below}
 
@@ -49,15 +49,20 @@ action-front F ls old ds e =
     (λ s t m. ap (λ (x : Float). s ⊕ absArea (triLengths F ls t) ⊗ x) (front-at F ls old t m))
 
 -- so does the gradient
-pulls-front : (F : FaceLists) (ls old ds : List Float) → ds ≡ over (deficitsOf (hinges F ls)) old → gather (pulls F ls ds) (upto (length (F .triangles))) ≡ gather (pulls F ls (deficitsOf (hinges F ls))) (upto (length (F .triangles)))
-unfolding pulls
-pulls-front F ls old ds e =
-    gather-same (pulls F ls ds) (pulls F ls (deficitsOf (hinges F ls))) (upto (length (F .triangles)))
-    (λ t m. ap (pullsOf (edgesAt F t) (triLengths F ls t)) (ap (λ (l : List Float). getD l t nan) e ∙ front-at F ls old t m))
+contributions-front : (F : FaceLists) (ls old ds : List Float) → ds ≡ over (deficitsOf (hinges F ls)) old → gather (contributions F ls ds) (upto (length (F .triangles))) ≡ gather (contributions F ls (deficitsOf (hinges F ls))) (upto (length (F .triangles)))
+unfolding contributions
+contributions-front F ls old ds e =
+    gather-same (contributions F ls ds) (contributions F ls (deficitsOf (hinges F ls))) (upto (length (F .triangles)))
+    (λ t m. ap (contributionsOf (edgesAt F t) (triLengths F ls t)) (ap (λ (l : List Float). getD l t nan) e ∙ front-at F ls old t m))
+
+-- the gradient of deficits in scratch
+pub gradient-front : (F : FaceLists) (ls old ds : List Float) → ds ≡ over (deficitsOf (hinges F ls)) old → gradientOf F ls ds ≡ gradient F ls
+unfolding gradientOf
+gradient-front F ls old ds e = ap (λ (es : List (ℕ × Float)). scatter nan _⊕_ es (replicate (length (F .edges)) zero)) (contributions-front F ls old ds e)
 
 -- ---- the entries
 
-three-below : (es : List ℕ) (xs : List Float) (n : ℕ) → length es ≡ 3 → Below es n → (a : ℕ × Float) → List·Memᴰ a (three es xs) → a .0 < n
+three-below : (es : List ℕ) (xs : List Float) (n : ℕ) → length es ≡ 3 → Below es n → (a : ℕ × Float) → List·Memᴰ a (atThree es xs) → a .0 < n
 three-below es xs n l b a m =
     ⊎-elim (at 0 (omega arith)) (λ k. ⊎-elim (at 1 (omega arith)) (λ j. ⊎-elim (at 2 (omega arith)) (λ i. absurd (List·Memᴰ·not-nil i)) (List·Memᴰ·cases-cons j)) (List·Memᴰ·cases-cons k)) (List·Memᴰ·cases-cons m)
   where
@@ -69,25 +74,25 @@ module _ (c : Counts) (pents edges triangles items ss pe pt : List ℕ) (n : ℕ
   F = facesIn c pents edges triangles
 
   -- what a triangle adds goes to an edge
-  pulls-below : (t : ℕ) → t < c .triangles → (a : ℕ × Float) → List·Memᴰ a (pulls F ls ds t) → a .0 < c .edges
-  unfolding pulls pullsOf
-  pulls-below t h a m = go (lt (absArea (triLengths F ls t)) areaLimit) m
+  contributions-below : (t : ℕ) → t < c .triangles → (a : ℕ × Float) → List·Memᴰ a (contributions F ls ds t) → a .0 < c .edges
+  unfolding contributions contributionsOf
+  contributions-below t h a m = go (lt (absArea (triLengths F ls t)) areaLimit) m
     where
       s : List ℕ
       s = getD (trianglesIn c triangles) t []
 
-      go : (b : Bool) → List·Memᴰ a (cond b [] (three (edgesAt F t) (pullOf (triLengths F ls t) (getD ds t nan)))) → a .0 < c .edges
+      go : (b : Bool) → List·Memᴰ a (cond b [] (atThree (edgesAt F t) (contributionOf (triLengths F ls t) (absArea (triLengths F ls t)) (getD ds t nan)))) → a .0 < c .edges
       go true k = absurd (List·Memᴰ·not-nil k)
       go false k =
-          three-below (edgesAt F t) (pullOf (triLengths F ls t) (getD ds t nan)) (c .edges)
+          three-below (edgesAt F t) (contributionOf (triLengths F ls t) (absArea (triLengths F ls t)) (getD ds t nan)) (c .edges)
           (length-map (combos s 2) (λ r. find r (edgesIn c edges)) ∙ three-edges s (ok .simplices .triangle s (getD-mem (trianglesIn c triangles) t [] (rw (length-rows 3 (c .triangles) triangles) h)) .1))
           (edges-below c pents edges triangles items ss pe pt n ok t h (edgesAt F t) refl (c .edges) (omega arith)) a k
 
   -- the entries of a list that begins with zeros
-  pub entries-over : (old zeros new : List Float) → zeros ≡ over (replicate (c .edges) zero) old → new ≡ scatter nan _⊕_ (gather (pulls F ls ds) (upto (c .triangles))) zeros → new ≡ over (gradientOf F ls ds) old
+  pub entries-over : (old zeros new : List Float) → zeros ≡ over (replicate (c .edges) zero) old → new ≡ scatter nan _⊕_ (gather (contributions F ls ds) (upto (c .triangles))) zeros → new ≡ over (gradientOf F ls ds) old
   unfolding over gradientOf
   entries-over old zeros new z e =
-      let es = gather (pulls F ls ds) (upto (c .triangles)) in
+      let es = gather (contributions F ls ds) (upto (c .triangles)) in
       let E : length (edgesIn c edges) ≡ c .edges = length-rows 2 (c .edges) edges in
       let T : length (trianglesIn c triangles) ≡ c .triangles = length-rows 3 (c .triangles) triangles in
       let r = replicate (c .edges) zero in
@@ -95,11 +100,6 @@ module _ (c : Counts) (pents edges triangles items ss pe pt : List ℕ) (n : ℕ
       ∙ ap (scatter nan _⊕_ es) (z ∙ ap (λ (k : ℕ). r ++ drop k old) (length-replicate (c .edges) zero))
       ∙ scatter-front nan _⊕_ es r (drop (c .edges) old)
       (λ a m.
-      let w = mem-gather (pulls F ls ds) (upto (c .triangles)) m in
-      subst (λ (k : ℕ). a .0 < k) (sym (length-replicate (c .edges) zero)) (pulls-below (w .0) (mem-upto (c .triangles) (w .0) (w .1)) a (w .2)))
+      let w = mem-gather (contributions F ls ds) (upto (c .triangles)) m in
+      subst (λ (k : ℕ). a .0 < k) (sym (length-replicate (c .edges) zero)) (contributions-below (w .0) (mem-upto (c .triangles) (w .0) (w .1)) a (w .2)))
       ∙ rw (E, T, length-scatter nan _⊕_ es r, length-replicate (c .edges) zero) refl
-
--- the gradient of deficits in scratch
-pub gradient-front : (F : FaceLists) (ls old ds : List Float) → ds ≡ over (deficitsOf (hinges F ls)) old → gradientOf F ls ds ≡ gradient F ls
-unfolding gradientOf
-gradient-front F ls old ds e = ap (λ (es : List (ℕ × Float)). scatter nan _⊕_ es (replicate (length (F .edges)) zero)) (pulls-front F ls old ds e)

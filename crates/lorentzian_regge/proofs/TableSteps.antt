@@ -13,10 +13,10 @@ use Rattle.lists.specs.Keys.{find}
 use Rattle.lists.specs.Rows.{Wide, over}
 use Rattle.lists.specs.Groups.{Below}
 use Rattle.lists.specs.Loops.{scatter}
-use Rattle.lists.proofs.Elements.{getD-mem, getD-map, map-same, mem-gather, gather-snoc, mem-upto, length-upto}
+use Rattle.lists.proofs.Elements.{getD-mem, getD-map, map-same, mem-gather, gather-snoc, mem-upto, length-upto, map-replicate}
 use Rattle.lists.proofs.Keys.{find-mem}
 use Rattle.lists.proofs.Loops.{length-scatter, scatter-append, scatter-front, scatter-map}
-use Rattle.lists.proofs.Rows.{length-rows, rows-wide, map-replicate}
+use Rattle.lists.proofs.Rows.{length-rows, rows-wide}
 use Rattle.complex.specs.declared.Counts.{Counts}
 use Rattle.complex.specs.declared.numbering.Face.the-variants.{Edge, Triangle}
 use Rattle.complex.specs.Complex.{rowNumbers}
@@ -29,7 +29,7 @@ use Rattle.lorentzian.specs.Dihedral.{kindNumber}
 use Rattle.lorentzian_regge.specs.declared.hinge.Hinge.{Hinge}
 use Rattle.lorentzian_regge.specs.declared.hinge.KindByte.{KindByte}
 use Rattle.lorentzian_regge.specs.declared.hinge.KindByte.the-variants.{NoKind}
-use Rattle.lorentzian_regge.specs.Hinges.{FaceLists, byteOf, kindIn, plus, first, closed, pentLengths, lengthsAt, dihedralOf, pairs, without, dihedrals, allDihedrals, sums, firstKinds, hinges, deficitsOf, kindsOf}
+use Rattle.lorentzian_regge.specs.Hinges.{FaceLists, byteOf, kindIn, plus, first, closed, pentLengths, lengthsAt, dihedralOf, localPairs, without, dihedrals, passDihedrals, sums, firstKinds, hinges, deficitsOf, kindsOf}
 use Rattle.lorentzian_regge.specs.Parts.{Found, Passable, firstByte, tenEvents}
 use Rattle.lorentzian_regge.proofs.HingeKinds.{kind-byte}
 
@@ -37,12 +37,12 @@ use Rattle.lorentzian_regge.proofs.HingeKinds.{kind-byte}
 
 -- ten dihedrals and ten triangle numbers, paired off from both ends, are the pentachoron's
 five-events : (ts : List (List ℕ)) (s : List Float) (p : List ℕ) → length p ≡ 5
-    → tenEvents (rowNumbers ts 3 p) (map (dihedralOf s) pairs) ≡ map (λ lm. (find (without p lm) ts, dihedralOf s lm)) pairs
+    → tenEvents (rowNumbers ts 3 p) (map (dihedralOf s) localPairs) ≡ map (λ lm. (find (without p lm) ts, dihedralOf s lm)) localPairs
 unfolding upto combos without keep among
 five-events ts s p h = rw (five-of p h) refl
 
 pub ten-events : (F : FaceLists) (ls s : List Float) (p tris : List ℕ) (ds : List Dihedral) → length p ≡ 5 → tris ≡ rowNumbers (F .triangles) 3 p
-    → s ≡ lengthsAt ls (rowNumbers (F .edges) 2 p) → ds ≡ map (dihedralOf s) pairs → tenEvents tris ds ≡ dihedrals F ls p
+    → s ≡ lengthsAt ls (rowNumbers (F .edges) 2 p) → ds ≡ map (dihedralOf s) localPairs → tenEvents tris ds ≡ dihedrals F ls p
 unfolding dihedrals pentLengths
 ten-events F ls s p tris ds five et es ed = rw (ed, et, es) (five-events (F .triangles) (lengthsAt ls (rowNumbers (F .edges) 2 p)) p five)
 
@@ -104,40 +104,40 @@ module _ (F : FaceLists) (ls : List Float) (five : Wide 5 (F .pents)) (found : F
   unfolding dihedrals
   event-below p mp a m =
       let s = pentLengths F ls p in
-      let n : List·Memᴰ a (tenEvents (rowNumbers (F .triangles) 3 p) (map (dihedralOf s) pairs)) = subst (λ (l : List (ℕ × Dihedral)). List·Memᴰ a l) (sym (five-events (F .triangles) s p (five p mp))) m in
-      let w = Memᴰ·of-map (λ k. (getD (rowNumbers (F .triangles) 3 p) (9 - k) 0, getD (map (dihedralOf s) pairs) k (Angle nan))) (upto 10) n in
+      let n : List·Memᴰ a (tenEvents (rowNumbers (F .triangles) 3 p) (map (dihedralOf s) localPairs)) = subst (λ (l : List (ℕ × Dihedral)). List·Memᴰ a l) (sym (five-events (F .triangles) s p (five p mp))) m in
+      let w = Memᴰ·of-map (λ k. (getD (rowNumbers (F .triangles) 3 p) (9 - k) 0, getD (map (dihedralOf s) localPairs) k (Angle nan))) (upto 10) n in
       let l : length (rowNumbers (F .triangles) 3 p) ≡ 10 = length-map (combos p 3) (λ s. find s (F .triangles)) ∙ count-faces Triangle p (five p mp) in
       subst (λ (i : ℕ). i < length (F .triangles)) (ap (λ (b : ℕ × Dihedral). b .0) (w .2))
       (numbers-below (F .triangles) 3 p (λ s ms. found p s mp ms) (9 - w .0) (omega (arith, l, mem-upto 10 (w .0) (w .1))))
 
-  all-below : (a : ℕ × Dihedral) → List·Memᴰ a (allDihedrals F ls) → a .0 < length (F .triangles)
-  unfolding allDihedrals
+  all-below : (a : ℕ × Dihedral) → List·Memᴰ a (passDihedrals F ls) → a .0 < length (F .triangles)
+  unfolding passDihedrals
   all-below a m = let w = mem-gather (dihedrals F ls) (F .pents) m in event-below (w .0) (w .1) a (w .2)
 
   -- the pass over a list that begins with as many values as there are triangles
   pass-over : {S : Type 0} (d : S) (f : S → Dihedral → S) (x : S) (old new : List S) → new ≡ over (replicate (length (F .triangles)) x) old
-      → scatter d f (allDihedrals F ls) new ≡ scatter d f (allDihedrals F ls) (replicate (length (F .triangles)) x) ++ drop (length (F .triangles)) old
+      → scatter d f (passDihedrals F ls) new ≡ scatter d f (passDihedrals F ls) (replicate (length (F .triangles)) x) ++ drop (length (F .triangles)) old
   unfolding over
   pass-over {S} d f x old new e =
       let n = length (F .triangles) in
-      ap (scatter d f (allDihedrals F ls)) (e ∙ ap (λ (k : ℕ). replicate n x ++ drop k old) (length-replicate n x))
-      ∙ scatter-front d f (allDihedrals F ls) (replicate n x) (drop n old) (λ a m. subst (λ (k : ℕ). a .0 < k) (sym (length-replicate n x)) (all-below a m))
+      ap (scatter d f (passDihedrals F ls)) (e ∙ ap (λ (k : ℕ). replicate n x ++ drop k old) (length-replicate n x))
+      ∙ scatter-front d f (passDihedrals F ls) (replicate n x) (drop n old) (λ a m. subst (λ (k : ℕ). a .0 < k) (sym (length-replicate n x)) (all-below a m))
 
   first-byte : (k : KindByte) (d : Dihedral) → byteOf (first k d) ≡ firstByte (byteOf k) d
   unfolding firstByte
   first-byte k d = ap (λ (u : KindByte). byteOf (first u d)) (sym (kind-byte k))
 
   -- the bytes after the pass are those of the first kinds
-  bytes-first : scatter 0 firstByte (allDihedrals F ls) (replicate (length (F .triangles)) 2) ≡ map byteOf (firstKinds F ls)
+  bytes-first : scatter 0 firstByte (passDihedrals F ls) (replicate (length (F .triangles)) 2) ≡ map byteOf (firstKinds F ls)
   unfolding firstKinds
   bytes-first =
       let n = length (F .triangles) in
-      ap (scatter 0 firstByte (allDihedrals F ls)) (sym (map-replicate byteOf n NoKind))
-      ∙ scatter-map NoKind first byteOf 0 firstByte first-byte (allDihedrals F ls) (replicate n NoKind) (λ a m. subst (λ (k : ℕ). a .0 < k) (sym (length-replicate n NoKind)) (all-below a m))
+      ap (scatter 0 firstByte (passDihedrals F ls)) (sym (map-replicate byteOf n NoKind))
+      ∙ scatter-map NoKind first byteOf 0 firstByte first-byte (passDihedrals F ls) (replicate n NoKind) (λ a m. subst (λ (k : ℕ). a .0 < k) (sym (length-replicate n NoKind)) (all-below a m))
 
   module _ (d d1 d2 : List Float) (k k1 k2 : List ℕ)
       (zeros : d1 ≡ over (replicate (length (F .triangles)) zero) d) (none : k1 ≡ over (replicate (length (F .triangles)) 2) k)
-      (summed : d2 ≡ scatter nan plus (allDihedrals F ls) d1) (seen : k2 ≡ scatter 0 firstByte (allDihedrals F ls) k1) where
+      (summed : d2 ≡ scatter nan plus (passDihedrals F ls) d1) (seen : k2 ≡ scatter 0 firstByte (passDihedrals F ls) k1) where
     sums-are : d2 ≡ sums F ls ++ drop (length (F .triangles)) d
     unfolding sums
     sums-are = summed ∙ pass-over nan plus zero d d1 zeros
@@ -147,15 +147,15 @@ module _ (F : FaceLists) (ls : List Float) (five : Wide 5 (F .pents)) (found : F
 
     length-sums : length (sums F ls) ≡ length (F .triangles)
     unfolding sums
-    length-sums = length-scatter nan plus (allDihedrals F ls) (replicate (length (F .triangles)) zero) ∙ length-replicate (length (F .triangles)) zero
+    length-sums = length-scatter nan plus (passDihedrals F ls) (replicate (length (F .triangles)) zero) ∙ length-replicate (length (F .triangles)) zero
 
     length-firsts : length (firstKinds F ls) ≡ length (F .triangles)
     unfolding firstKinds
-    length-firsts = length-scatter NoKind first (allDihedrals F ls) (replicate (length (F .triangles)) NoKind) ∙ length-replicate (length (F .triangles)) NoKind
+    length-firsts = length-scatter NoKind first (passDihedrals F ls) (replicate (length (F .triangles)) NoKind) ∙ length-replicate (length (F .triangles)) NoKind
 
     -- the sum and the byte of a triangle
-    closed-at : (t : ℕ) → t < length (F .triangles) → closed (kindIn (getD k2 t 0)) (getD d2 t nan) ≡ closed (getD (firstKinds F ls) t NoKind) (getD (sums F ls) t nan)
-    closed-at t h =
+    read-at : (t : ℕ) → t < length (F .triangles) → closed (kindIn (getD k2 t 0)) (getD d2 t nan) ≡ closed (getD (firstKinds F ls) t NoKind) (getD (sums F ls) t nan)
+    read-at t h =
         let rest-d = drop (length (F .triangles)) d in
         let rest-k = drop (length (F .triangles)) k in
         let m : t < length (firstKinds F ls) = omega (arith, length-firsts) in
@@ -173,7 +173,7 @@ module _ (F : FaceLists) (ls : List Float) (five : Wide 5 (F .pents)) (found : F
     unfolding hinges
     closed-all {S} g =
         map-same (λ t. g (closed (kindIn (getD k2 t 0)) (getD d2 t nan))) (λ t. g (closed (getD (firstKinds F ls) t NoKind) (getD (sums F ls) t nan))) (upto (length (F .triangles)))
-        (λ t m. ap g (closed-at t (mem-upto (length (F .triangles)) t m)))
+        (λ t m. ap g (read-at t (mem-upto (length (F .triangles)) t m)))
         ∙ sym (map-map g (λ t. closed (getD (firstKinds F ls) t NoKind) (getD (sums F ls) t nan)) (upto (length (F .triangles))))
 
     length-hinges : {S : Type 0} (g : Hinge → S) → length (map g (hinges F ls)) ≡ length (F .triangles)

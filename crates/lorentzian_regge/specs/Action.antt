@@ -49,27 +49,27 @@ areaLimit = dbl 0x39b4_484b_feeb_c2a0
 
 -- the sign of a squared area, over twice the area; the sign of a NaN is -1
 unfoldable pub factorOf : Float → Float → Float
-factorOf areaSq area = cond (le zero areaSq) one (neg one) ⊘ (two ⊗ area)
+factorOf square area = cond (le zero square) one (neg one) ⊘ (two ⊗ area)
 
--- what a triangle of three squared lengths adds at its three edges
-unfoldable pub pullOf : List Float → Float → List Float
-pullOf s deficit = map (λ g. factorOf (areaSqOf s) (absArea s) ⊗ g ⊗ deficit) (areaSqGrad (getD s 0 nan) (getD s 1 nan) (getD s 2 nan))
+-- what a triangle of three squared lengths and an area adds at its three edges
+unfoldable pub contributionOf : List Float → Float → Float → List Float
+contributionOf s area deficit = map (λ g. factorOf (areaSqOf s) area ⊗ g ⊗ deficit) (areaSqGrad (getD s 0 nan) (getD s 1 nan) (getD s 2 nan))
 
 -- three numbers of edges with what is added there
-abbrev pub three : List ℕ → List Float → List (ℕ × Float)
-three es xs = (getD es 0 0, getD xs 0 nan) ∷ (getD es 1 0, getD xs 1 nan) ∷ (getD es 2 0, getD xs 2 nan) ∷ []
+abbrev pub atThree : List ℕ → List Float → List (ℕ × Float)
+atThree es xs = (getD es 0 0, getD xs 0 nan) ∷ (getD es 1 0, getD xs 1 nan) ∷ (getD es 2 0, getD xs 2 nan) ∷ []
 
 -- what a triangle adds, and where; nothing if its area is skipped, which a NaN is not
-unfoldable pub pullsOf : List ℕ → List Float → Float → List (ℕ × Float)
-pullsOf es s deficit = cond (lt (absArea s) areaLimit) [] (three es (pullOf s deficit))
+unfoldable pub contributionsOf : List ℕ → List Float → Float → List (ℕ × Float)
+contributionsOf es s deficit = cond (lt (absArea s) areaLimit) [] (atThree es (contributionOf s (absArea s) deficit))
 
 -- what triangle t adds, and where
-unfoldable pub pulls : FaceLists → List Float → List Float → ℕ → List (ℕ × Float)
-pulls F ls deficits t = pullsOf (edgesAt F t) (triLengths F ls t) (getD deficits t nan)
+unfoldable pub contributions : FaceLists → List Float → List Float → ℕ → List (ℕ × Float)
+contributions F ls deficits t = contributionsOf (edgesAt F t) (triLengths F ls t) (getD deficits t nan)
 
 -- the sum of what all triangles add at each edge
 unfoldable pub gradientOf : FaceLists → List Float → List Float → List Float
-gradientOf F ls deficits = scatter nan _⊕_ (gather (pulls F ls deficits) (upto (length (F .triangles)))) (replicate (length (F .edges)) zero)
+gradientOf F ls deficits = scatter nan _⊕_ (gather (contributions F ls deficits) (upto (length (F .triangles)))) (replicate (length (F .edges)) zero)
 
 -- `lorentzian_regge_action_grad`
 abbrev pub gradient : FaceLists → List Float → List Float

@@ -22,20 +22,22 @@ use Rattle.lorentzian_regge.specs.declared.action.ActionAnswer.the-varia
 use Rattle.lorentzian_regge.specs.Hinges.{FaceLists, hinges, deficitsOf, kindsOf}
 use Rattle.lorentzian_regge.specs.Action.{gradient}
 
--- ---- refusals
+-- ---- what a core asks
 
 -- a complex is built, and its two incidence lists begin with the edge numbers and triangle numbers of its pentachorons
 pub record BuiltWith (c : Counts) (l : Lists) (pe pt : List ℕ) : Type 0 where
   pub built : isBuilt c l ≡ true
   pub noted : Noted (pentsIn c (l .pents)) pe pt
 
--- 8 where there are not as many lengths as edges, then what the other checks say
-unfoldable pub lengthsCheckOf : Counts → ℕ → Outcome → Outcome
-lengthsCheckOf c lengths others = cond (not (eqb lengths (c .edges))) (Refused LengthCount) others
+-- ---- refusals
 
 -- 7 where the complex is not built, then what the other checks say
 unfoldable pub builtCheckOf : Counts → Lists → Outcome → Outcome
 builtCheckOf c l others = cond (not (isBuilt c l)) (Refused NotBuilt) others
+
+-- 8 where there are not as many lengths as edges, then what the other checks say
+unfoldable pub lengthsCheckOf : Counts → ℕ → Outcome → Outcome
+lengthsCheckOf c lengths others = cond (not (eqb lengths (c .edges))) (Refused LengthCount) others
 
 -- 5 where an output is short
 unfoldable pub roomCheckOf : Bool → Outcome
@@ -45,11 +47,11 @@ roomCheckOf short = cond short (Refused ShortRoom) Done
 unfoldable pub triangleCheckOf : Counts → ℕ → Outcome
 triangleCheckOf c t = cond (ltb t (c .triangles)) Done (Refused BadIndex)
 
--- some list has no place for each triangle
+-- a list has fewer places than there are triangles
 abbrev pub shortTable : Counts → ℕ → ℕ → Bool
 shortTable c deficits kinds = ltb deficits (c .triangles) || ltb kinds (c .triangles)
 
--- a list has no place for each edge
+-- a list has fewer places than there are edges
 abbrev pub shortGradient : Counts → ℕ → Bool
 shortGradient c grad = ltb grad (c .edges)
 

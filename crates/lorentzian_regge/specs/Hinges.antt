@@ -55,9 +55,9 @@ kindIn (suc zero) = Kind Timelike
 kindIn (suc (suc n)) = NoKind
 
 -- the kind, or another where there is none
-abbrev pub kindOr : KindByte → HingeType → HingeType
-kindOr (Kind k) other = k
-kindOr NoKind other = other
+abbrev pub knownOr : KindByte → HingeType → HingeType
+knownOr (Kind k) other = k
+knownOr NoKind other = other
 
 -- ---- a hinge
 
@@ -85,7 +85,7 @@ first NoKind d = Kind (kindOf d)
 
 -- the hinge of a first kind and a sum; Spacelike where there was no dihedral
 unfoldable pub closed : KindByte → Float → Hinge
-closed k sum = hingeOf (kindOr k Spacelike) sum
+closed k sum = hingeOf (knownOr k Spacelike) sum
 
 -- the hinge that has these dihedrals, in this order
 unfoldable pub hinge : List Dihedral → Hinge
@@ -112,8 +112,8 @@ abbrev pub dihedralOf : List Float → List ℕ → Dihedral
 dihedralOf s lm = dihedralAt s (getD lm 0 0) (getD lm 1 0)
 
 -- the pairs l < m of local indices, in the order of the Rust's loops
-abbrev pub pairs : List (List ℕ)
-pairs = combos (upto 5) 2
+abbrev pub localPairs : List (List ℕ)
+localPairs = combos (upto 5) 2
 
 -- the triangle of a pentachoron that is left by the vertices with the local indices l and m
 unfoldable pub without : List ℕ → List ℕ → List ℕ
@@ -121,21 +121,21 @@ without p lm = map (λ v. getD p v 0) (keep (λ v. not (among v lm)) (upto 5))
 
 -- the dihedrals of a pentachoron, each with the number of its triangle
 unfoldable pub dihedrals : FaceLists → List Float → List ℕ → List (ℕ × Dihedral)
-dihedrals F ls p = map (λ lm. (find (without p lm) (F .triangles), dihedralOf (pentLengths F ls p) lm)) pairs
+dihedrals F ls p = map (λ lm. (find (without p lm) (F .triangles), dihedralOf (pentLengths F ls p) lm)) localPairs
 
 -- ---- all hinges in one pass
 
 -- the dihedrals of all pentachorons
-unfoldable pub allDihedrals : FaceLists → List Float → List (ℕ × Dihedral)
-allDihedrals F ls = gather (dihedrals F ls) (F .pents)
+unfoldable pub passDihedrals : FaceLists → List Float → List (ℕ × Dihedral)
+passDihedrals F ls = gather (dihedrals F ls) (F .pents)
 
 -- the sum of each triangle's dihedrals
 unfoldable pub sums : FaceLists → List Float → List Float
-sums F ls = scatter nan plus (allDihedrals F ls) (replicate (length (F .triangles)) Ops.zero)
+sums F ls = scatter nan plus (passDihedrals F ls) (replicate (length (F .triangles)) Ops.zero)
 
 -- the first kind of each triangle
 unfoldable pub firstKinds : FaceLists → List Float → List KindByte
-firstKinds F ls = scatter NoKind first (allDihedrals F ls) (replicate (length (F .triangles)) NoKind)
+firstKinds F ls = scatter NoKind first (passDihedrals F ls) (replicate (length (F .triangles)) NoKind)
 
 -- `lorentzian_deficit_angles`: the hinge of each triangle
 unfoldable pub hinges : FaceLists → List Float → List Hinge

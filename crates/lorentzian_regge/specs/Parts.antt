@@ -15,6 +15,8 @@ use Rattle.lorentzian_regge.specs.declared.signs.LengthSigns.{LengthSign
 use Rattle.lorentzian_regge.specs.Hinges.{byteOf, kindIn, first}
 use Rattle.lorentzian_regge.specs.LengthSigns.{isTimelike, isNull, isSpacelike}
 
+-- ---- what is asked
+
 -- each face of k vertices of each row is among the keys
 abbrev pub Found : List (List ℕ) → ℕ → List (List ℕ) → Type 0
 Found keys k rs = (r s : List ℕ) → List·Memᴰ r rs → List·Memᴰ s (combos r k) → List·Memᴰ s keys
@@ -28,7 +30,7 @@ pub record Passable (c : Counts) (pents edges triangles pe pt : List ℕ) (n : �
   pub triangles-found : Found (trianglesIn c triangles) 3 (pentsIn c pents)
   pub lengths : n ≡ c .edges
 
--- the same, and triangles with the numbers of the pentachorons in which they lie, whose edges are known
+-- the same, and triangles whose edges have numbers, with the numbers of the pentachorons in which each triangle lies
 pub record Measured (c : Counts) (pents edges triangles items ss pe pt : List ℕ) (n : ℕ) : Type 0 where
   pub passable : Passable c pents edges triangles pe pt n
   pub few : c .triangles ≤ 81920
@@ -37,6 +39,8 @@ pub record Measured (c : Counts) (pents edges triangles items ss pe pt : List �
   pub holders : holds (pentsIn c pents) (trianglesIn c triangles) items ss ≡ true
   pub edges-found : Found (edgesIn c edges) 2 (trianglesIn c triangles)
 
+-- ---- the pass
+
 -- a byte of the list of kinds, with one dihedral more
 unfoldable pub firstByte : ℕ → Dihedral → ℕ
 firstByte b d = byteOf (first (kindIn b) d)
@@ -44,6 +48,8 @@ firstByte b d = byteOf (first (kindIn b) d)
 -- the ten dihedrals of a pentachoron with its ten triangle numbers: a pair of vertices is opposite the triangle that is as far from the last as the pair is from the first
 abbrev pub tenEvents : List ℕ → List Dihedral → List (ℕ × Dihedral)
 tenEvents tris ds = map (λ k. (getD tris (9 - k) 0, getD ds k (Angle nan))) (upto 10)
+
+-- ---- length signs
 
 -- one more where a test passes
 abbrev pub countIf : Bool → ℕ → ℕ

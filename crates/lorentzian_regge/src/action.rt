@@ -5,7 +5,7 @@ use crate::checks::check_lengths;
 use crate::table::write_table;
 use complex::Counts;
 use complex::TriangleNumber;
-use complex::check_built;
+use complex::is_built_noting;
 use complex::tri_edge_indices;
 use refusals::Outcome;
 use refusals::Refusal;
@@ -164,7 +164,7 @@ pub fn lorentzian_regge_action<'a>(
 {
     let mut pent_edges = [0u32; 81920];
     let mut pent_tris = [0u32; 81920];
-    match check_built(
+    if !is_built_noting(
         counts,
         pents,
         edges,
@@ -179,22 +179,22 @@ pub fn lorentzian_regge_action<'a>(
         &mut pent_edges,
         &mut pent_tris,
     ) {
-        Outcome::Refused(refusal) => ActionAnswer::Refused(refusal),
-        Outcome::Done => lorentzian_regge_action_built(
-            counts,
-            pents,
-            edges,
-            triangles,
-            tets,
-            tri_to_pents_items,
-            tri_to_pents_starts,
-            edge_to_tris_items,
-            edge_to_tris_starts,
-            edge_to_pents_items,
-            edge_to_pents_starts,
-            &pent_edges,
-            &pent_tris,
-            sq_lengths,
-        ),
+        return ActionAnswer::Refused(Refusal::NotBuilt);
     }
+    lorentzian_regge_action_built(
+        counts,
+        pents,
+        edges,
+        triangles,
+        tets,
+        tri_to_pents_items,
+        tri_to_pents_starts,
+        edge_to_tris_items,
+        edge_to_tris_starts,
+        edge_to_pents_items,
+        edge_to_pents_starts,
+        &pent_edges,
+        &pent_tris,
+        sq_lengths,
+    )
 }

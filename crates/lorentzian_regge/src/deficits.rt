@@ -11,7 +11,7 @@ use crate::table::write_table;
 use complex::Counts;
 use complex::PentachoronNumber;
 use complex::TriangleNumber;
-use complex::check_built;
+use complex::is_built_noting;
 use complex::opposite_local_indices;
 use complex::pent_edge_indices;
 use complex::pents_of_triangle;
@@ -105,7 +105,7 @@ pub fn lorentzian_deficit_angles<'a>(
 {
     let mut pent_edges = [0u32; 81920];
     let mut pent_tris = [0u32; 81920];
-    match check_built(
+    if !is_built_noting(
         counts,
         pents,
         edges,
@@ -120,26 +120,26 @@ pub fn lorentzian_deficit_angles<'a>(
         &mut pent_edges,
         &mut pent_tris,
     ) {
-        Outcome::Refused(refusal) => Outcome::Refused(refusal),
-        Outcome::Done => lorentzian_deficit_angles_built(
-            counts,
-            pents,
-            edges,
-            triangles,
-            tets,
-            tri_to_pents_items,
-            tri_to_pents_starts,
-            edge_to_tris_items,
-            edge_to_tris_starts,
-            edge_to_pents_items,
-            edge_to_pents_starts,
-            &pent_edges,
-            &pent_tris,
-            sq_lengths,
-            deficits,
-            kinds,
-        ),
+        return Outcome::Refused(Refusal::NotBuilt);
     }
+    lorentzian_deficit_angles_built(
+        counts,
+        pents,
+        edges,
+        triangles,
+        tets,
+        tri_to_pents_items,
+        tri_to_pents_starts,
+        edge_to_tris_items,
+        edge_to_tris_starts,
+        edge_to_pents_items,
+        edge_to_pents_starts,
+        &pent_edges,
+        &pent_tris,
+        sq_lengths,
+        deficits,
+        kinds,
+    )
 }
 
 // ---- one triangle
@@ -182,7 +182,7 @@ impl HingeAnswer {
     }
 
     // The byte of its kind, or another for a refusal.
-    pub fn kind_or(self, other: u8) -> u8
+    pub fn kind_byte_or(self, other: u8) -> u8
         ensures { λ r. ⌜ r ≡ kindByteOr self other ⌝ }
     {
         match self {
@@ -265,7 +265,7 @@ fn hinge_at<'a>(
             tri,
         );
         sum += dihedral.value();
-        kind = kind.or_of(dihedral);
+        kind = kind.or_kind_of(dihedral);
         k += 1;
     }
     closed(kind, sum)
@@ -337,7 +337,7 @@ pub fn lorentzian_deficit_angle<'a>(
 {
     let mut pent_edges = [0u32; 81920];
     let mut pent_tris = [0u32; 81920];
-    match check_built(
+    if !is_built_noting(
         counts,
         pents,
         edges,
@@ -352,23 +352,23 @@ pub fn lorentzian_deficit_angle<'a>(
         &mut pent_edges,
         &mut pent_tris,
     ) {
-        Outcome::Refused(refusal) => HingeAnswer::Refused(refusal),
-        Outcome::Done => lorentzian_deficit_angle_built(
-            counts,
-            pents,
-            edges,
-            triangles,
-            tets,
-            tri_to_pents_items,
-            tri_to_pents_starts,
-            edge_to_tris_items,
-            edge_to_tris_starts,
-            edge_to_pents_items,
-            edge_to_pents_starts,
-            &pent_edges,
-            &pent_tris,
-            sq_lengths,
-            tri,
-        ),
+        return HingeAnswer::Refused(Refusal::NotBuilt);
     }
+    lorentzian_deficit_angle_built(
+        counts,
+        pents,
+        edges,
+        triangles,
+        tets,
+        tri_to_pents_items,
+        tri_to_pents_starts,
+        edge_to_tris_items,
+        edge_to_tris_starts,
+        edge_to_pents_items,
+        edge_to_pents_starts,
+        &pent_edges,
+        &pent_tris,
+        sq_lengths,
+        tri,
+    )
 }

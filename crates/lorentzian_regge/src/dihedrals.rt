@@ -10,7 +10,7 @@ ghost use mathlib.Core.List.{map};
 ghost use Prim.Native.Nat.{_<_};
 ghost use lib.ListN.{length};
 ghost use Rattle.lists.specs.Groups.{Below};
-ghost use Rattle.lorentzian_regge.specs.Hinges.{lengthsAt, dihedralAt, dihedralOf, pairs};
+ghost use Rattle.lorentzian_regge.specs.Hinges.{lengthsAt, dihedralAt, dihedralOf, localPairs};
 
 // The ten squared lengths of a pentachoron, by the numbers of its edges.
 pub fn pent_sq_lengths(edges: &[u32], sq_lengths: &[f64]) -> [f64; 10]
@@ -42,7 +42,7 @@ pub fn dihedral_at(s: &[f64; 10], at: Opposite) -> Dihedral
 
 // All ten, opposite the pairs 01, 02, 03, 04, 12, 13, 14, 23, 24, 34.
 pub fn ten_dihedrals(s: &[f64; 10]) -> [Dihedral; 10]
-    ensures { λ r. ⌜ r ≡ map (dihedralOf (now (s .entry))) pairs ⌝ }
+    ensures { λ r. ⌜ r ≡ map (dihedralOf (now (s .entry))) localPairs ⌝ }
 {
     let c = cm_cofactors(s);
     let c00 = c[0];

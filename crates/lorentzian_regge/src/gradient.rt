@@ -8,11 +8,12 @@ use crate::table::zero_all;
 use complex::Counts;
 use complex::TriangleEdges;
 use complex::TriangleNumber;
-use complex::check_built;
+use complex::is_built_noting;
 use complex::tri_edge_indices;
 use lorentzian::triangle_area_sq_grad;
 use lorentzian::triangle_area_sq_lorentzian;
 use refusals::Outcome;
+use refusals::Refusal;
 ghost use mathlib.Core.Path.{_≡_};
 ghost use Prim.Native.Nat.{_≤_};
 ghost use lib.Ieee.{nan};
@@ -24,9 +25,11 @@ ghost use Rattle.lists.specs.Loops.{scatter};
 ghost use Rattle.complex.specs.Builder.{lists};
 ghost use Rattle.complex.specs.Incidence.{edgeList};
 ghost use Rattle.lorentzian_regge.specs.Hinges.{facesIn};
-ghost use Rattle.lorentzian_regge.specs.Action.{factorOf, pullOf, pullsOf, pulls};
+ghost use Rattle.lorentzian_regge.specs.Action.{factorOf, contributionOf, contributionsOf, contributions};
 ghost use Rattle.lorentzian_regge.specs.Calls.{BuiltWith, lengthsCheckOf, builtCheckOf, roomCheckOf, shortGradient, Graded};
 ghost use Rattle.lorentzian_regge.specs.Parts.{Measured};
+
+// ---- one triangle
 
 // The sign of a squared area, over twice the area.
 fn factor_of(area_sq: f64, area: f64) -> f64
@@ -37,10 +40,10 @@ fn factor_of(area_sq: f64, area: f64) -> f64
 }
 
 // What a triangle adds at its three edges.
-fn pull_of(s: [f64; 3], deficit: f64) -> [f64; 3]
-    ensures { λ r. ⌜ r ≡ pullOf s deficit ⌝ }
+fn contribution_of(s: [f64; 3], area: f64, deficit: f64) -> [f64; 3]
+    ensures { λ r. ⌜ r ≡ contributionOf s area deficit ⌝ }
 {
-    let factor = factor_of(triangle_area_sq_lorentzian(s[0], s[1], s[2]), abs_area(s));
+    let factor = factor_of(triangle_area_sq_lorentzian(s[0], s[1], s[2]), area);
     let grad = triangle_area_sq_grad(s[0], s[1], s[2]);
     [
         factor * grad[0] * deficit,
@@ -50,21 +53,24 @@ fn pull_of(s: [f64; 3], deficit: f64) -> [f64; 3]
 }
 
 // The entries of a triangle's edges with what the triangle adds; an area below 1e-30 is skipped.
-fn add_pulls(edges: TriangleEdges, s: [f64; 3], deficit: f64, grad: &mut [f64])
+fn add_contributions(edges: TriangleEdges, s: [f64; 3], deficit: f64, grad: &mut [f64])
     requires { ⌜ Below (edgeList edges) (length (now grad)) ⌝ }
-    ensures { λ _. ⌜ now (grad .exit) ≡ scatter nan _⊕_ (pullsOf (edgeList edges) s deficit) (now (grad .entry)) ⌝ }
+    ensures { λ _. ⌜ now (grad .exit) ≡ scatter nan _⊕_ (contributionsOf (edgeList edges) s deficit) (now (grad .entry)) ⌝ }
 {
-    if abs_area(s) < 1e-30 {
+    let area = abs_area(s);
+    if area < 1e-30 {
         return;
     }
-    let pull = pull_of(s, deficit);
-    grad[edges.0.0 as usize] += pull[0];
-    grad[edges.1.0 as usize] += pull[1];
-    grad[edges.2.0 as usize] += pull[2];
+    let added = contribution_of(s, area, deficit);
+    grad[edges.0.0 as usize] += added[0];
+    grad[edges.1.0 as usize] += added[1];
+    grad[edges.2.0 as usize] += added[2];
 }
 
+// ---- all triangles
+
 // What all triangles add, in their order.
-fn add_all<'a>(
+fn add_all_contributions<'a>(
     counts: Counts,
     pents: &'a [u32],
     edges: &'a [u32],
@@ -79,7 +85,7 @@ fn add_all<'a>(
 )
     requires { ⌜ Measured counts (now pents) (now edges) (now triangles) (now «tri_to_pents_items») (now «tri_to_pents_starts») (now «pent_edges») (now «pent_tris») (length (now «sq_lengths»))
         × (counts .triangles ≤ length (now deficits)) × (counts .edges ≤ length (now grad)) ⌝ }
-    ensures { λ _. ⌜ now (grad .exit) ≡ scatter nan _⊕_ (gather (pulls (facesIn counts (now (pents .entry)) (now (edges .entry)) (now (triangles .entry))) (now («sq_lengths» .entry)) (now (deficits .entry))) (upto (counts .triangles))) (now (grad .entry)) ⌝ }
+    ensures { λ _. ⌜ now (grad .exit) ≡ scatter nan _⊕_ (gather (contributions (facesIn counts (now (pents .entry)) (now (edges .entry)) (now (triangles .entry))) (now («sq_lengths» .entry)) (now (deficits .entry))) (upto (counts .triangles))) (now (grad .entry)) ⌝ }
 {
     let mut t = 0u32;
     while (t as usize) < counts.triangles {
@@ -95,7 +101,7 @@ fn add_all<'a>(
             TriangleNumber(t),
         );
         let s = tri_sq_lengths(own, sq_lengths);
-        add_pulls(own, s, deficits[t as usize], grad);
+        add_contributions(own, s, deficits[t as usize], grad);
         t += 1;
     }
 }
@@ -147,7 +153,7 @@ pub fn lorentzian_regge_action_grad_built<'a>(
                 &mut kinds,
             );
             zero_all(counts.edges, grad);
-            add_all(
+            add_all_contributions(
                 counts,
                 pents,
                 edges,
@@ -190,7 +196,7 @@ pub fn lorentzian_regge_action_grad<'a>(
 {
     let mut pent_edges = [0u32; 81920];
     let mut pent_tris = [0u32; 81920];
-    match check_built(
+    if !is_built_noting(
         counts,
         pents,
         edges,
@@ -205,23 +211,23 @@ pub fn lorentzian_regge_action_grad<'a>(
         &mut pent_edges,
         &mut pent_tris,
     ) {
-        Outcome::Refused(refusal) => Outcome::Refused(refusal),
-        Outcome::Done => lorentzian_regge_action_grad_built(
-            counts,
-            pents,
-            edges,
-            triangles,
-            tets,
-            tri_to_pents_items,
-            tri_to_pents_starts,
-            edge_to_tris_items,
-            edge_to_tris_starts,
-            edge_to_pents_items,
-            edge_to_pents_starts,
-            &pent_edges,
-            &pent_tris,
-            sq_lengths,
-            grad,
-        ),
+        return Outcome::Refused(Refusal::NotBuilt);
     }
+    lorentzian_regge_action_grad_built(
+        counts,
+        pents,
+        edges,
+        triangles,
+        tets,
+        tri_to_pents_items,
+        tri_to_pents_starts,
+        edge_to_tris_items,
+        edge_to_tris_starts,
+        edge_to_pents_items,
+        edge_to_pents_starts,
+        &pent_edges,
+        &pent_tris,
+        sq_lengths,
+        grad,
+    )
 }

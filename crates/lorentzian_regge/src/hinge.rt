@@ -2,7 +2,7 @@
 use lorentzian::Dihedral;
 use lorentzian::HingeType;
 ghost use mathlib.Core.Path.{_≡_};
-ghost use Rattle.lorentzian_regge.specs.Hinges.{byteOf, kindIn, kindOr, first, hingeOf, closed};
+ghost use Rattle.lorentzian_regge.specs.Hinges.{byteOf, kindIn, knownOr, first, hingeOf, closed};
 
 const PI: f64 = 3.141592653589793;
 
@@ -12,7 +12,7 @@ pub struct Hinge {
     pub kind: HingeType,
 }
 
-// What a byte of a list of kinds stands for. Such a list is read by `kind_of` and written by `byte` alone.
+// What a byte of a list of kinds stands for. A lent list of kinds is read by `kind_in` and written by `byte` alone.
 pub enum KindByte {
     Kind(HingeType),
     NoKind,
@@ -31,7 +31,7 @@ impl KindByte {
 
     // The kind, or another where there is none.
     pub fn kind_or(self, other: HingeType) -> HingeType
-        ensures { λ r. ⌜ r ≡ kindOr self other ⌝ }
+        ensures { λ r. ⌜ r ≡ knownOr self other ⌝ }
     {
         match self {
             KindByte::Kind(kind) => kind,
@@ -40,7 +40,7 @@ impl KindByte {
     }
 
     // The kind of a hinge after one dihedral more: the first one decides.
-    pub fn or_of(self, dihedral: Dihedral) -> KindByte
+    pub fn or_kind_of(self, dihedral: Dihedral) -> KindByte
         ensures { λ r. ⌜ r ≡ first self dihedral ⌝ }
     {
         let own = dihedral.kind();
@@ -52,7 +52,7 @@ impl KindByte {
 }
 
 // The kind that a byte stands for.
-pub fn kind_of(byte: u8) -> KindByte
+pub fn kind_in(byte: u8) -> KindByte
     ensures { λ r. ⌜ r ≡ kindIn byte ⌝ }
 {
     match byte {
@@ -78,7 +78,7 @@ fn hinge_of(kind: HingeType, sum: f64) -> Hinge
     }
 }
 
-// The hinge of the first kind, Spacelike where there is none, with the sum of its dihedrals.
+// The hinge of a first kind and a sum; Spacelike where there was no dihedral.
 pub fn closed(kind: KindByte, sum: f64) -> Hinge
     ensures { λ r. ⌜ r ≡ closed kind sum ⌝ }
 {

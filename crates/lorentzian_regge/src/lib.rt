@@ -23,6 +23,6 @@ pub use gradient::lorentzian_regge_action_grad;
 pub use gradient::lorentzian_regge_action_grad_built;
 pub use hinge::Hinge;
 pub use hinge::KindByte;
-pub use hinge::kind_of;
+pub use hinge::kind_in;
 pub use signs::LengthSigns;
 pub use signs::length_signs;

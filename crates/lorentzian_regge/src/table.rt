@@ -3,7 +3,7 @@ use crate::dihedrals::pent_sq_lengths;
 use crate::dihedrals::ten_dihedrals;
 use crate::hinge::KindByte;
 use crate::hinge::closed;
-use crate::hinge::kind_of;
+use crate::hinge::kind_in;
 use complex::Counts;
 use complex::PentachoronNumber;
 use complex::TriangleNumber;
@@ -21,8 +21,10 @@ ghost use Rattle.lists.specs.Rows.{over};
 ghost use Rattle.lists.specs.Groups.{Below};
 ghost use Rattle.lists.specs.Loops.{scatter};
 ghost use Rattle.lorentzian.specs.Dihedral.{kindNumber};
-ghost use Rattle.lorentzian_regge.specs.Hinges.{facesIn, kindIn, plus, closed, allDihedrals, hinges, deficitsOf, kindsOf};
+ghost use Rattle.lorentzian_regge.specs.Hinges.{facesIn, kindIn, plus, closed, passDihedrals, hinges, deficitsOf, kindsOf};
 ghost use Rattle.lorentzian_regge.specs.Parts.{Passable, firstByte, tenEvents};
+
+// ---- before the pass
 
 // The first n entries are 0.
 pub fn zero_all(n: usize, list: &mut [f64])
@@ -48,6 +50,8 @@ fn clear_kinds(n: usize, kinds: &mut [u8])
     }
 }
 
+// ---- the pass
+
 // One dihedral more at a triangle.
 fn add_dihedral(tri: TriangleNumber, dihedral: Dihedral, sums: &mut [f64], kinds: &mut [u8])
     requires { ⌜ (tri .0 < length (now sums)) × (tri .0 < length (now kinds)) ⌝ }
@@ -56,7 +60,7 @@ fn add_dihedral(tri: TriangleNumber, dihedral: Dihedral, sums: &mut [f64], kinds
 {
     let t = tri.0 as usize;
     sums[t] += dihedral.value();
-    kinds[t] = kind_of(kinds[t]).or_of(dihedral).byte();
+    kinds[t] = kind_in(kinds[t]).or_kind_of(dihedral).byte();
 }
 
 // The ten dihedrals of a pentachoron, each at the triangle that its pair of vertices leaves.
@@ -73,7 +77,7 @@ fn add_ten(tris: &[u32], dihedrals: [Dihedral; 10], sums: &mut [f64], kinds: &mu
 }
 
 // The dihedrals of all pentachorons, in their order.
-fn add_all<'a>(
+fn add_all_dihedrals<'a>(
     counts: Counts,
     pents: &'a [u32],
     edges: &'a [u32],
@@ -86,8 +90,8 @@ fn add_all<'a>(
 )
     requires { ⌜ Passable counts (now pents) (now edges) (now triangles) (now «pent_edges») (now «pent_tris») (length (now «sq_lengths»))
         × (counts .triangles ≤ length (now sums)) × (counts .triangles ≤ length (now kinds)) ⌝ }
-    ensures { λ _. ⌜ (now (sums .exit) ≡ scatter nan plus (allDihedrals (facesIn counts (now (pents .entry)) (now (edges .entry)) (now (triangles .entry))) (now («sq_lengths» .entry))) (now (sums .entry)))
-        × (now (kinds .exit) ≡ scatter 0 firstByte (allDihedrals (facesIn counts (now (pents .entry)) (now (edges .entry)) (now (triangles .entry))) (now («sq_lengths» .entry))) (now (kinds .entry))) ⌝ }
+    ensures { λ _. ⌜ (now (sums .exit) ≡ scatter nan plus (passDihedrals (facesIn counts (now (pents .entry)) (now (edges .entry)) (now (triangles .entry))) (now («sq_lengths» .entry))) (now (sums .entry)))
+        × (now (kinds .exit) ≡ scatter 0 firstByte (passDihedrals (facesIn counts (now (pents .entry)) (now (edges .entry)) (now (triangles .entry))) (now («sq_lengths» .entry))) (now (kinds .entry))) ⌝ }
 {
     let mut p = 0u32;
     while (p as usize) < counts.pentachorons {
@@ -100,6 +104,8 @@ fn add_all<'a>(
     }
 }
 
+// ---- after the pass
+
 // The first n sums and first kinds become deficits and kinds.
 fn close_all(n: usize, sums: &mut [f64], kinds: &mut [u8])
     requires { ⌜ (n ≤ length (now sums)) × (n ≤ length (now kinds)) ⌝ }
@@ -108,13 +114,15 @@ fn close_all(n: usize, sums: &mut [f64], kinds: &mut [u8])
 {
     let mut k = 0;
     while k < n {
-        let hinge = closed(kind_of(kinds[k]), sums[k]);
+        let hinge = closed(kind_in(kinds[k]), sums[k]);
         let kind = hinge.kind;
         sums[k] = hinge.deficit;
         kinds[k] = KindByte::Kind(kind).byte();
         k += 1;
     }
 }
+
+// ---- the whole
 
 // The deficits and kinds of all triangles.
 pub fn write_table<'a>(
@@ -135,7 +143,7 @@ pub fn write_table<'a>(
 {
     zero_all(counts.triangles, deficits);
     clear_kinds(counts.triangles, kinds);
-    add_all(
+    add_all_dihedrals(
         counts,
         pents,
         edges,

@@ -12,8 +12,8 @@ lorentzian-deficit-angle-requires c κs = search needs
 deficit-or-requires : tie.Need-deficit-or-requires
 deficit-or-requires c κs = search needs
 
-kind-or-requires : tie.Need-kind-or-requires
-kind-or-requires c κs = search needs
+kind-byte-or-requires : tie.Need-kind-byte-or-requires
+kind-byte-or-requires c κs = search needs
 
 number-requires : tie.Need-number-requires
 number-requires c κs = search needs
@@ -21,7 +21,7 @@ number-requires c κs = search needs
 returns : tie.Need-returns
 returns c =
     let f = c .before .before .before .before .lorentzian-deficit-angle in
-    record { answer = f .result; answered = rw (c .before .before .before .before .before .counts-of .ensures) at (f .ensures); numbered = c .number .ensures; deficits = c .before .before .before .deficit-or .ensures; kinds = c .before .kind-or .ensures }
+    record { answer = f .result; answered = rw (c .before .before .before .before .before .counts-of .ensures) at (f .ensures); numbered = c .number .ensures; deficit-left = c .before .before .before .deficit-or .ensures; kind-left = c .before .kind-byte-or .ensures }
 
 pub cjapthumi-lorentzian-deficit-angle-spec : {M : Type 1} → statement M
 cjapthumi-lorentzian-deficit-angle-spec =
@@ -30,6 +30,6 @@ cjapthumi-lorentzian-deficit-angle-spec =
     counts-of-requires
     lorentzian-deficit-angle-requires
     deficit-or-requires
-    kind-or-requires
+    kind-byte-or-requires
     number-requires
     returns)

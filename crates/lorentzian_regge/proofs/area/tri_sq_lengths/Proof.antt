@@ -11,7 +11,7 @@ mul-t4 : tie.Need-mul-t4
 mul-t4 c = search needs
 
 shared-slice-read-t6 : tie.Need-shared-slice-read-t6
-shared-slice-read-t6 c = c .before .before .pre 0 (omega arith)
+shared-slice-read-t6 c = let p = c .before .before .pre in omega (arith, p 0 (omega arith), p 1 (omega arith), p 2 (omega arith))
 
 cast-t7 : tie.Need-cast-t7
 cast-t7 c = search needs
@@ -20,7 +20,7 @@ mul-t8 : tie.Need-mul-t8
 mul-t8 c = search needs
 
 shared-slice-read-t10 : tie.Need-shared-slice-read-t10
-shared-slice-read-t10 c = c .before .before .before .before .pre 1 (omega arith)
+shared-slice-read-t10 c = let p = c .before .before .before .before .pre in omega (arith, p 0 (omega arith), p 1 (omega arith), p 2 (omega arith))
 
 cast-t11 : tie.Need-cast-t11
 cast-t11 c = search needs
@@ -29,7 +29,7 @@ mul-t12 : tie.Need-mul-t12
 mul-t12 c = search needs
 
 shared-slice-read-t14 : tie.Need-shared-slice-read-t14
-shared-slice-read-t14 c = c .before .before .before .before .before .before .pre 2 (omega arith)
+shared-slice-read-t14 c = let p = c .before .before .before .before .before .before .pre in omega (arith, p 0 (omega arith), p 1 (omega arith), p 2 (omega arith))
 
 returns : tie.Need-returns
 returns c = search needs

@@ -49,8 +49,8 @@ dihedral-in-requires c κs =
 value-requires : tie.Need-value-requires Inv-loop μ-loop
 value-requires c κs = search needs
 
-or-of-requires : tie.Need-or-of-requires Inv-loop μ-loop
-or-of-requires c κs = search needs
+or-kind-of-requires : tie.Need-or-kind-of-requires Inv-loop μ-loop
+or-kind-of-requires c κs = search needs
 
 add-k : tie.Need-add-k Inv-loop μ-loop
 add-k c = search needs
@@ -68,7 +68,7 @@ loop-again c =
     let f : ℕ → Dihedral = dihedralIn (facesIn (a .counts) (a .pents .now) (a .edges .now) (a .triangles .now)) (a .sq-lengths .now) (getD (trianglesIn (a .counts) (a .triangles .now)) (a .tri .0) []) in (
       omega arith,
       rw (c .before .value .ensures, d .ensures, l .inv .1) (sym (fold-next f plus zero own (l .k) 0 (omega arith))),
-      c .or-of .ensures ∙ rw (d .ensures, l .inv .2) (sym (fold-next f first NoKind own (l .k) 0 (omega arith))),
+      c .or-kind-of .ensures ∙ rw (d .ensures, l .inv .2) (sym (fold-next f first NoKind own (l .k) 0 (omega arith))),
     )
 
 closed-requires : tie.Need-closed-requires Inv-loop μ-loop
@@ -98,7 +98,7 @@ hinge-at-spec =
     shared-slice-read-t19
     dihedral-in-requires
     value-requires
-    or-of-requires
+    or-kind-of-requires
     add-k
     loop-less
     loop-again

@@ -1,27 +1,27 @@
 -- `lorentzian_regge::deficits::lorentzian_deficit_angles` meets its contract. Assumes nothing.
 use mathlib.Core.Path.{refl, sym, _∙_}
 use lib.ListN.{length}
+use borrow.Author.Tests.{not-true, not-false}
 use borrow.Author.Needs.{needs}
 use Rattle.complex.specs.Builder.{lists}
 use Rattle.lorentzian_regge.specs.Calls.{lengthsCheckOf, roomCheckOf, shortTable}
-use Rattle.lorentzian_regge.proofs.BuiltCalls.{not-built, built-with, others-decide}
+use Rattle.lorentzian_regge.proofs.BuiltCalls.{not-built, others-decide}
 use Rattle.lorentzian_regge.proofs.deficits.lorentzian_deficit_angles.Statement.{statement}
 use Rattle.lorentzian_regge.proofs.deficits.lorentzian_deficit_angles.Tie as tie
 
-slice-aggregate-check-built : tie.Need-slice-aggregate-check-built
-slice-aggregate-check-built c = search needs
+slice-aggregate-is-built-noting : tie.Need-slice-aggregate-is-built-noting
+slice-aggregate-is-built-noting c = search needs
 
-slice-aggregate-check-built-2 : tie.Need-slice-aggregate-check-built-2
-slice-aggregate-check-built-2 c = search needs
+slice-aggregate-is-built-noting-2 : tie.Need-slice-aggregate-is-built-noting-2
+slice-aggregate-is-built-noting-2 c = search needs
 
-check-built-requires : tie.Need-check-built-requires
-check-built-requires c κs = search needs
+is-built-noting-requires : tie.Need-is-built-noting-requires
+is-built-noting-requires c κs = search needs
 
-enum-known-refusal : tie.Need-enum-known-refusal
-enum-known-refusal c = search needs
-
-enum-told : tie.Need-enum-told
-enum-told c = search needs
+returns : tie.Need-returns
+returns c =
+    let a = c .before .before .before .before .before .before .before .before .before .before .before .before .before .before .before .before .before .before .before .args in
+    record { answered = sym (not-built (a .counts) (lists (a .pents .now) (a .edges .now) (a .triangles .now) (a .tets .now) (a .tri-to-pents-items .now) (a .tri-to-pents-starts .now) (a .edge-to-tris-items .now) (a .edge-to-tris-starts .now) (a .edge-to-pents-items .now) (a .edge-to-pents-starts .now)) (lengthsCheckOf (a .counts) (length (a .sq-lengths .now)) (roomCheckOf (shortTable (a .counts) (length (a .deficits .now)) (length (a .kinds .now))))) (sym (c .before .before .before .is-built-noting .ensures .0) ∙ not-true (c .before .before .before .is-built-noting .result) (c .if1 .taken))); deficits = refl; kinds = refl }
 
 slice-aggregate-lorentzian-deficit-angles-built :
     tie.Need-slice-aggregate-lorentzian-deficit-angles-built
@@ -33,13 +33,8 @@ slice-aggregate-lorentzian-deficit-angles-built-2 c = search needs
 
 lorentzian-deficit-angles-built-requires : tie.Need-lorentzian-deficit-angles-built-requires
 lorentzian-deficit-angles-built-requires c κs =
-    let a = c .before .before .before .before .before .before .before .before .before .before .before .before .before .before .before .before .before .before .before .before .before .before .before .before .args in
-    built-with (a .counts) (lists (a .pents .now) (a .edges .now) (a .triangles .now) (a .tets .now) (a .tri-to-pents-items .now) (a .tri-to-pents-starts .now) (a .edge-to-tris-items .now) (a .edge-to-tris-starts .now) (a .edge-to-pents-items .now) (a .edge-to-pents-starts .now)) 81920 refl _ _ refl refl (c .before .before .before .before .before .before .before .before .check-built .result) (c .before .before .before .before .before .before .before .before .check-built .last .1 .1 .1 .1 .1 .1 .1 .1 .1 .1 .1 .0) (c .before .before .before .before .before .before .before .before .check-built .last .1 .1 .1 .1 .1 .1 .1 .1 .1 .1 .1 .1 .0) (c .before .before .before .before .before .before .before .before .check-built .ensures) (c .before .before .before .before .enum-told .given .1)
-
-returns : tie.Need-returns
-returns c =
-    let a = c .before .before .before .before .before .before .before .before .before .before .before .before .before .before .before .before .before .before .before .before .before .args in
-    record { answered = sym (not-built (a .counts) (lists (a .pents .now) (a .edges .now) (a .triangles .now) (a .tets .now) (a .tri-to-pents-items .now) (a .tri-to-pents-starts .now) (a .edge-to-tris-items .now) (a .edge-to-tris-starts .now) (a .edge-to-pents-items .now) (a .edge-to-pents-starts .now)) 81920 refl _ _ refl refl (c .before .before .before .before .before .check-built .result) (c .before .before .before .before .before .check-built .last .1 .1 .1 .1 .1 .1 .1 .1 .1 .1 .1 .0) (c .before .before .before .before .before .check-built .last .1 .1 .1 .1 .1 .1 .1 .1 .1 .1 .1 .1 .0) (c .before .before .before .before .before .check-built .ensures) (c .before .refusal .given .0 .0) (lengthsCheckOf (a .counts) (length (a .sq-lengths .now)) (roomCheckOf (shortTable (a .counts) (length (a .deficits .now)) (length (a .kinds .now))))) (c .before .refusal .given .1)); deficits = refl; kinds = refl }
+    let h = not-false (c .before .before .before .before .before .before .before .is-built-noting .result) (c .before .before .before .before .if1 .left) in
+    record { built = sym (c .before .before .before .before .before .before .before .is-built-noting .ensures .0) ∙ h; noted = c .before .before .before .before .before .before .before .is-built-noting .ensures .1 h }
 
 same-length : tie.Need-same-length
 same-length c = search needs
@@ -49,23 +44,22 @@ same-length-2 c = search needs
 
 returns-2 : tie.Need-returns-2
 returns-2 c =
-    let a = c .before .before .before .before .before .before .before .before .before .before .before .before .before .before .before .before .before .before .before .before .before .before .before .before .before .before .before .before .before .args in
+    let a = c .before .before .before .before .before .before .before .before .before .before .before .before .before .before .before .before .before .before .before .before .before .before .before .before .before .before .before .before .args in
+    let h = not-false (c .before .before .before .before .before .before .before .before .before .before .before .before .is-built-noting .result) (c .before .before .before .before .before .before .before .before .before .if1 .left) in
     let t = c .before .before .before .before .lorentzian-deficit-angles-built .ensures in
-    record { answered = t .answered ∙ sym (others-decide (a .counts) (lists (a .pents .now) (a .edges .now) (a .triangles .now) (a .tets .now) (a .tri-to-pents-items .now) (a .tri-to-pents-starts .now) (a .edge-to-tris-items .now) (a .edge-to-tris-starts .now) (a .edge-to-pents-items .now) (a .edge-to-pents-starts .now)) 81920 refl _ _ refl refl (c .before .before .before .before .before .before .before .before .before .before .before .before .before .check-built .result) (c .before .before .before .before .before .before .before .before .before .before .before .before .before .check-built .last .1 .1 .1 .1 .1 .1 .1 .1 .1 .1 .1 .0) (c .before .before .before .before .before .before .before .before .before .before .before .before .before .check-built .last .1 .1 .1 .1 .1 .1 .1 .1 .1 .1 .1 .1 .0) (c .before .before .before .before .before .before .before .before .before .before .before .before .before .check-built .ensures) (lengthsCheckOf (a .counts) (length (a .sq-lengths .now)) (roomCheckOf (shortTable (a .counts) (length (a .deficits .now)) (length (a .kinds .now))))) (c .before .before .before .before .before .before .before .before .before .enum-told .given .1)); deficits = t .deficits; kinds = t .kinds }
+    record { answered = t .answered ∙ sym (others-decide (a .counts) (lists (a .pents .now) (a .edges .now) (a .triangles .now) (a .tets .now) (a .tri-to-pents-items .now) (a .tri-to-pents-starts .now) (a .edge-to-tris-items .now) (a .edge-to-tris-starts .now) (a .edge-to-pents-items .now) (a .edge-to-pents-starts .now)) (lengthsCheckOf (a .counts) (length (a .sq-lengths .now)) (roomCheckOf (shortTable (a .counts) (length (a .deficits .now)) (length (a .kinds .now))))) (sym (c .before .before .before .before .before .before .before .before .before .before .before .before .is-built-noting .ensures .0) ∙ h)); deficits = t .deficits; kinds = t .kinds }
 
 pub lorentzian-deficit-angles-spec : {M : Type 1} → statement M
 lorentzian-deficit-angles-spec =
     tie.close
     (tie.spec
-    slice-aggregate-check-built
-    slice-aggregate-check-built-2
-    check-built-requires
-    enum-known-refusal
-    enum-told
+    slice-aggregate-is-built-noting
+    slice-aggregate-is-built-noting-2
+    is-built-noting-requires
+    returns
     slice-aggregate-lorentzian-deficit-angles-built
     slice-aggregate-lorentzian-deficit-angles-built-2
     lorentzian-deficit-angles-built-requires
-    returns
     same-length
     same-length-2
     returns-2)

@@ -46,11 +46,11 @@ zero-all-requires c κs =
     let p = lengths-passed (a .counts) (length (a .sq-lengths .now)) (roomCheckOf (shortGradient (a .counts) (length (a .grad .now)))) (sym (c .before .before .before .before .before .before .before .before .check-lengths .ensures ∙ ap (lengthsCheckOf (a .counts) (length (a .sq-lengths .now))) (c .before .before .before .before .before .before .before .before .before .check-room .ensures)) ∙ c .before .before .before .before .before .before .enum-told .given .1) in
     ltb-false (length (a .grad .now)) (a .counts .edges) (room-passed (shortGradient (a .counts) (length (a .grad .now))) (p .1))
 
-slice-aggregate-add-all : tie.Need-slice-aggregate-add-all
-slice-aggregate-add-all c = search needs
+slice-aggregate-add-all-contributions : tie.Need-slice-aggregate-add-all-contributions
+slice-aggregate-add-all-contributions c = search needs
 
-add-all-requires : tie.Need-add-all-requires
-add-all-requires c κs =
+add-all-contributions-requires : tie.Need-add-all-contributions-requires
+add-all-contributions-requires c κs =
     let a = c .before .before .before .before .before .before .before .before .before .before .before .before .before .before .before .before .before .before .before .before .before .before .before .before .before .before .before .before .before .before .args in
     let p = lengths-passed (a .counts) (length (a .sq-lengths .now)) (roomCheckOf (shortGradient (a .counts) (length (a .grad .now)))) (sym (c .before .before .before .before .before .before .before .before .before .before .before .before .before .check-lengths .ensures ∙ ap (lengthsCheckOf (a .counts) (length (a .sq-lengths .now))) (c .before .before .before .before .before .before .before .before .before .before .before .before .before .before .check-room .ensures)) ∙ c .before .before .before .before .before .before .before .before .before .before .before .enum-told .given .1) in
     let m = built-measured (a .counts) (lists (a .pents .now) (a .edges .now) (a .triangles .now) (a .tets .now) (a .tri-to-pents-items .now) (a .tri-to-pents-starts .now) (a .edge-to-tris-items .now) (a .edge-to-tris-starts .now) (a .edge-to-pents-items .now) (a .edge-to-pents-starts .now)) (a .pent-edges .now) (a .pent-tris .now) (length (a .sq-lengths .now)) (c .before .before .before .before .before .before .before .before .before .before .before .before .before .before .before .before .before .before .before .before .before .before .before .before .before .before .before .before .before .before .pre) (p .0) in
@@ -73,7 +73,7 @@ returns-2 c =
     let m = built-measured (a .counts) (lists (a .pents .now) (a .edges .now) (a .triangles .now) (a .tets .now) (a .tri-to-pents-items .now) (a .tri-to-pents-starts .now) (a .edge-to-tris-items .now) (a .edge-to-tris-starts .now) (a .edge-to-pents-items .now) (a .edge-to-pents-starts .now)) (a .pent-edges .now) (a .pent-tris .now) (length (a .sq-lengths .now)) (c .before .before .before .before .before .before .before .before .before .before .before .before .before .before .before .before .before .before .before .before .before .before .before .before .before .before .before .before .before .before .before .before .before .pre) (p .0) in
     let t = c .before .before .before .before .before .before .before .before .before .before .before .write-table in
     let z = c .before .before .before .before .before .before .before .zero-all in
-    let g = c .before .before .add-all in
+    let g = c .before .before .add-all-contributions in
     record {
       answered = sym e;
       entries =
@@ -93,8 +93,8 @@ lorentzian-regge-action-grad-built-spec =
     slice-aggregate-write-table-2
     write-table-requires
     zero-all-requires
-    slice-aggregate-add-all
-    add-all-requires
+    slice-aggregate-add-all-contributions
+    add-all-contributions-requires
     returns
     same-length
     returns-2)

@@ -21,14 +21,14 @@ slice-read-sums c = search needs
 slice-write-sums : tie.Need-slice-write-sums
 slice-write-sums c = search needs
 
-slice-read-kind-of : tie.Need-slice-read-kind-of
-slice-read-kind-of c = search needs
+slice-read-kind-in : tie.Need-slice-read-kind-in
+slice-read-kind-in c = search needs
 
-kind-of-requires : tie.Need-kind-of-requires
-kind-of-requires c κs = search needs
+kind-in-requires : tie.Need-kind-in-requires
+kind-in-requires c κs = search needs
 
-or-of-requires : tie.Need-or-of-requires
-or-of-requires c κs = search needs
+or-kind-of-requires : tie.Need-or-kind-of-requires
+or-kind-of-requires c κs = search needs
 
 byte-requires : tie.Need-byte-requires
 byte-requires c κs = search needs
@@ -44,7 +44,7 @@ same-length-2 c = search needs
 
 returns : tie.Need-returns
 unfolding plus firstByte
-returns c = (rw (c .before .before .before .before .before .value .ensures) refl, rw (c .byte .ensures, c .before .or-of .ensures, c .before .before .kind-of .ensures) refl)
+returns c = (rw (c .before .before .before .before .before .value .ensures) refl, rw (c .byte .ensures, c .before .or-kind-of .ensures, c .before .before .kind-in .ensures) refl)
 
 pub add-dihedral-spec : {M : Type 1} → statement M
 add-dihedral-spec =
@@ -55,9 +55,9 @@ add-dihedral-spec =
     mul-sums
     slice-read-sums
     slice-write-sums
-    slice-read-kind-of
-    kind-of-requires
-    or-of-requires
+    slice-read-kind-in
+    kind-in-requires
+    or-kind-of-requires
     byte-requires
     slice-write-kinds
     same-length

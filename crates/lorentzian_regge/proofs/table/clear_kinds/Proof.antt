@@ -8,7 +8,8 @@ use lib.ListN.{length, drop, length-set}
 use borrow.Author.Needs.{needs}
 use Rattle.lists.specs.Lists.{upto}
 use Rattle.lists.specs.Rows.{over}
-use Rattle.lists.proofs.Rows.{map-turn, map-done, map-const}
+use Rattle.lists.proofs.Elements.{map-const}
+use Rattle.lists.proofs.Rows.{map-turn, map-done}
 use Rattle.lorentzian_regge.proofs.table.clear_kinds.Statement.{statement}
 use Rattle.lorentzian_regge.proofs.table.clear_kinds.Tie as tie
 

@@ -32,11 +32,11 @@ loop-holds : tie.Need-loop-holds Inv-loop μ-loop
 unfolding upto
 loop-holds c = (omega arith, refl, refl, refl, refl)
 
-slice-read-kind-of : tie.Need-slice-read-kind-of Inv-loop μ-loop
-slice-read-kind-of c = search needs
+slice-read-kind-in : tie.Need-slice-read-kind-in Inv-loop μ-loop
+slice-read-kind-in c = search needs
 
-kind-of-requires : tie.Need-kind-of-requires Inv-loop μ-loop
-kind-of-requires c κs = search needs
+kind-in-requires : tie.Need-kind-in-requires Inv-loop μ-loop
+kind-in-requires c κs = search needs
 
 mul-closed : tie.Need-mul-closed Inv-loop μ-loop
 mul-closed c = search needs
@@ -72,7 +72,7 @@ loop-again c =
     let f : ℕ → Hinge = closedAt (a .sums .now) (a .kinds .now) in
     let b : getD (l .kinds) (l .k) 0 ≡ getD (a .kinds .now) (l .k) 0 = rw (l .inv .4) (read-next (λ t. kindNumber (f t .kind)) (a .kinds .now) (l .k) 0) in
     let s : getD (l .sums) (l .k) nan ≡ getD (a .sums .now) (l .k) nan = rw (l .inv .3) (read-next (λ t. f t .deficit) (a .sums .now) (l .k) nan) in
-    let h : c .before .closed .result ≡ f (l .k) = c .before .closed .ensures ∙ rw (c .before .before .before .kind-of .ensures, b, s) refl in (
+    let h : c .before .closed .result ≡ f (l .k) = c .before .closed .ensures ∙ rw (c .before .before .before .kind-in .ensures, b, s) refl in (
       omega arith,
       length-set (l .sums) (l .k) (c .before .closed .result .deficit) ∙ l .inv .1,
       length-set (l .kinds) (l .k) (c .byte .result) ∙ l .inv .2,
@@ -99,8 +99,8 @@ close-all-spec =
     Inv-loop
     μ-loop
     loop-holds
-    slice-read-kind-of
-    kind-of-requires
+    slice-read-kind-in
+    kind-in-requires
     mul-closed
     slice-read-closed
     closed-requires

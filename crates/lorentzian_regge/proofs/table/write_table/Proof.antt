@@ -15,8 +15,8 @@ zero-all-requires c κs = search needs
 clear-kinds-requires : tie.Need-clear-kinds-requires
 clear-kinds-requires c κs = search needs
 
-add-all-requires : tie.Need-add-all-requires
-add-all-requires c κs = search needs
+add-all-dihedrals-requires : tie.Need-add-all-dihedrals-requires
+add-all-dihedrals-requires c κs = search needs
 
 close-all-requires : tie.Need-close-all-requires
 close-all-requires c κs = search needs
@@ -33,7 +33,7 @@ returns c =
     let r = c .before .before .before .before .before .before .before .before .before .before .before .before .before .before .before .before .before .before .before .before .before .before .before .before .before .before .before .before .before .before .pre .0 in
     let z = c .before .before .before .before .before .before .before .before .before .before .before .before .before .before .before .before .before .before .before .before .zero-all in
     let n = c .before .before .before .before .before .before .before .before .before .before .before .before .before .before .before .before .clear-kinds in
-    let p = c .before .before .before .before .before .before .before .before .before .before .before .add-all in
+    let p = c .before .before .before .before .before .before .before .before .before .before .before .add-all-dihedrals in
     let e = c .before .before .before .before .close-all in
     let F : FaceLists = facesIn (a .counts) (a .pents .now) (a .edges .now) (a .triangles .now) in
     let T : length (trianglesIn (a .counts) (a .triangles .now)) ≡ a .counts .triangles = length-rows 3 (a .counts .triangles) (a .triangles .now) in (
@@ -49,7 +49,7 @@ write-table-spec =
     (tie.spec
     zero-all-requires
     clear-kinds-requires
-    add-all-requires
+    add-all-dihedrals-requires
     close-all-requires
     same-length
     same-length-2

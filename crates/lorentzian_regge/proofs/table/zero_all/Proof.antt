@@ -9,7 +9,8 @@ use borrow.Author.Needs.{needs}
 use Rattle.floats.specs.Ops.{zero}
 use Rattle.lists.specs.Lists.{upto}
 use Rattle.lists.specs.Rows.{over}
-use Rattle.lists.proofs.Rows.{map-turn, map-done, map-const}
+use Rattle.lists.proofs.Elements.{map-const}
+use Rattle.lists.proofs.Rows.{map-turn, map-done}
 use Rattle.lorentzian_regge.proofs.table.zero_all.Statement.{statement}
 use Rattle.lorentzian_regge.proofs.table.zero_all.Tie as tie
 

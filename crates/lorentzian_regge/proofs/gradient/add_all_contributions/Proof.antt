@@ -1,4 +1,4 @@
--- `lorentzian_regge::gradient::add_all` meets its contract. Assumes nothing.
+-- `lorentzian_regge::gradient::add_all_contributions` meets its contract. Assumes nothing.
 use Prim.Native.Nat.{_-_, _≤_}
 use mathlib.Core.Path.{_≡_, refl, ap, _∙_}
 use native.Mathlib.Omega.{arith}
@@ -11,15 +11,15 @@ use Rattle.lists.specs.Loops.{scatter}
 use Rattle.lists.proofs.Loops.{scatter-turn}
 use Rattle.complex.specs.Incidence.{edgeList}
 use Rattle.lorentzian_regge.specs.Hinges.{FaceLists, facesIn, lengthsAt}
-use Rattle.lorentzian_regge.specs.Action.{edgesAt, triLengths, pullsOf, pulls}
+use Rattle.lorentzian_regge.specs.Action.{edgesAt, triLengths, contributionsOf, contributions}
 use Rattle.lorentzian_regge.proofs.TriangleSteps.{edges-below}
-use Rattle.lorentzian_regge.proofs.gradient.add_all.Statement.{statement}
-use Rattle.lorentzian_regge.proofs.gradient.add_all.Tie as tie
+use Rattle.lorentzian_regge.proofs.gradient.add_all_contributions.Statement.{statement}
+use Rattle.lorentzian_regge.proofs.gradient.add_all_contributions.Tie as tie
 
 abbrev Inv-loop : tie.InvT-loop
 Inv-loop counts pents edges triangles tri-to-pents-items tri-to-pents-starts pent-edges pent-tris sq-lengths deficits grad₀ t₀ grad t =
     (t ≤ counts .triangles) × (length grad ≡ length grad₀)
-    × (grad ≡ scatter nan _⊕_ (gather (pulls (facesIn counts pents edges triangles) sq-lengths deficits) (upto t)) grad₀)
+    × (grad ≡ scatter nan _⊕_ (gather (contributions (facesIn counts pents edges triangles) sq-lengths deficits) (upto t)) grad₀)
 
 abbrev μ-loop : tie.MeasureT-loop
 μ-loop counts pents edges triangles tri-to-pents-items tri-to-pents-starts pent-edges pent-tris sq-lengths deficits grad₀ t₀ grad t = counts .triangles - t
@@ -40,17 +40,17 @@ tri-sq-lengths-requires c κs =
     let r = c .before .before .before .before .before .before .before .before .before .before .before .before .before .before .pre .0 in
     edges-below (a .counts) (a .pents .now) (a .edges .now) (a .triangles .now) (a .tri-to-pents-items .now) (a .tri-to-pents-starts .now) (a .pent-edges .now) (a .pent-tris .now) (length (a .sq-lengths .now)) r (c .before .before .before .loop .t) (c .before .if1 .taken) (edgeList (c .tri-edge-indices .result)) (c .tri-edge-indices .ensures) (length (a .sq-lengths .now)) (omega (arith, r .passable .lengths))
 
-cast-add-pulls : tie.Need-cast-add-pulls Inv-loop μ-loop
-cast-add-pulls c = search needs
+cast-add-contributions : tie.Need-cast-add-contributions Inv-loop μ-loop
+cast-add-contributions c = search needs
 
-mul-add-pulls : tie.Need-mul-add-pulls Inv-loop μ-loop
-mul-add-pulls c = search needs
+mul-add-contributions : tie.Need-mul-add-contributions Inv-loop μ-loop
+mul-add-contributions c = search needs
 
-shared-slice-read-add-pulls : tie.Need-shared-slice-read-add-pulls Inv-loop μ-loop
-shared-slice-read-add-pulls c = omega (arith, c .before .before .before .before .before .before .before .before .before .before .before .before .before .before .before .before .pre .1, c .before .before .before .if1 .taken)
+shared-slice-read-add-contributions : tie.Need-shared-slice-read-add-contributions Inv-loop μ-loop
+shared-slice-read-add-contributions c = omega (arith, c .before .before .before .before .before .before .before .before .before .before .before .before .before .before .before .before .pre .1, c .before .before .before .if1 .taken)
 
-add-pulls-requires : tie.Need-add-pulls-requires Inv-loop μ-loop
-add-pulls-requires c κs =
+add-contributions-requires : tie.Need-add-contributions-requires Inv-loop μ-loop
+add-contributions-requires c κs =
     let a = c .before .before .before .before .before .before .before .before .before .before .before .before .before .before .before .before .before .args in
     let l = c .before .before .before .before .before .before .loop in
     edges-below (a .counts) (a .pents .now) (a .edges .now) (a .triangles .now) (a .tri-to-pents-items .now) (a .tri-to-pents-starts .now) (a .pent-edges .now) (a .pent-tris .now) (length (a .sq-lengths .now)) (c .before .before .before .before .before .before .before .before .before .before .before .before .before .before .before .before .before .pre .0) (l .t) (c .before .before .before .before .if1 .taken) (edgeList (c .before .before .before .tri-edge-indices .result)) (c .before .before .before .tri-edge-indices .ensures) (length (l .grad)) (omega (arith, c .before .before .before .before .before .before .before .before .before .before .before .before .before .before .before .before .before .pre .2, l .inv .1))
@@ -62,20 +62,20 @@ loop-less : tie.Need-loop-less Inv-loop μ-loop
 loop-less c = search needs
 
 loop-again : tie.Need-loop-again Inv-loop μ-loop
-unfolding pulls triLengths
+unfolding contributions triLengths
 loop-again c =
     let a = c .before .before .before .before .before .before .before .before .before .before .before .before .before .before .before .before .before .before .before .before .args in
     let l = c .before .before .before .before .before .before .before .before .before .loop in
-    let f = c .before .before .add-pulls in
+    let f = c .before .before .add-contributions in
     let own = c .before .before .before .before .before .before .tri-edge-indices in
     let s = c .before .before .before .before .before .tri-sq-lengths in
     let F : FaceLists = facesIn (a .counts) (a .pents .now) (a .edges .now) (a .triangles .now) in
     let ds = a .deficits .now in
-    let e : pullsOf (edgeList (own .result)) (s .result) (getD ds (l .t) nan) ≡ pulls F (a .sq-lengths .now) ds (l .t) =
-    ap (λ es. pullsOf es (s .result) (getD ds (l .t) nan)) (own .ensures) ∙ ap (λ u. pullsOf (edgesAt F (l .t)) u (getD ds (l .t) nan)) (s .ensures ∙ ap (lengthsAt (a .sq-lengths .now)) (own .ensures)) in (
+    let e : contributionsOf (edgeList (own .result)) (s .result) (getD ds (l .t) nan) ≡ contributions F (a .sq-lengths .now) ds (l .t) =
+    ap (λ es. contributionsOf es (s .result) (getD ds (l .t) nan)) (own .ensures) ∙ ap (λ u. contributionsOf (edgesAt F (l .t)) u (getD ds (l .t) nan)) (s .ensures ∙ ap (lengthsAt (a .sq-lengths .now)) (own .ensures)) in (
       omega arith,
       f .kept .1 .1 .1 .0 ∙ l .inv .1,
-      scatter-turn nan _⊕_ (pulls F (a .sq-lengths .now) ds) (l .t) (pullsOf (edgeList (own .result)) (s .result) (getD ds (l .t) nan)) (a .grad .now) (l .grad) (f .last .1 .1 .1 .0) e (l .inv .2) (f .ensures),
+      scatter-turn nan _⊕_ (contributions F (a .sq-lengths .now) ds) (l .t) (contributionsOf (edgeList (own .result)) (s .result) (getD ds (l .t) nan)) (a .grad .now) (l .grad) (f .last .1 .1 .1 .0) e (l .inv .2) (f .ensures),
     )
 
 same-length : tie.Need-same-length Inv-loop μ-loop
@@ -88,8 +88,8 @@ returns c =
     let e : l .t ≡ a .counts .triangles = omega arith in
     rw e at (l .inv .2)
 
-pub add-all-spec : {M : Type 1} → statement M
-add-all-spec =
+pub add-all-contributions-spec : {M : Type 1} → statement M
+add-all-contributions-spec =
     tie.close
     (tie.spec
     Inv-loop
@@ -98,10 +98,10 @@ add-all-spec =
     cast-if1
     tri-edge-indices-requires
     tri-sq-lengths-requires
-    cast-add-pulls
-    mul-add-pulls
-    shared-slice-read-add-pulls
-    add-pulls-requires
+    cast-add-contributions
+    mul-add-contributions
+    shared-slice-read-add-contributions
+    add-contributions-requires
     add-t
     loop-less
     loop-again

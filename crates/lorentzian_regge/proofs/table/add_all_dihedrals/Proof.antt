@@ -1,4 +1,4 @@
--- `lorentzian_regge::table::add_all` meets its contract. Assumes nothing.
+-- `lorentzian_regge::table::add_all_dihedrals` meets its contract. Assumes nothing.
 use Prim.Native.Nat.{ℕ, _-_, _≤_, _<_}
 use mathlib.Core.Path.{_≡_, refl, ap, _∙_}
 use mathlib.Core.List.{List, []}
@@ -12,11 +12,11 @@ use Rattle.lists.specs.Loops.{scatter}
 use Rattle.lists.proofs.Rows.{length-rows}
 use Rattle.complex.specs.Check.{pentsIn}
 use Rattle.lorentzian.specs.declared.dihedral.Dihedral.{Dihedral}
-use Rattle.lorentzian_regge.specs.Hinges.{FaceLists, facesIn, plus, dihedrals, allDihedrals, lengthsAt}
+use Rattle.lorentzian_regge.specs.Hinges.{FaceLists, facesIn, plus, dihedrals, passDihedrals, lengthsAt}
 use Rattle.lorentzian_regge.specs.Parts.{firstByte, tenEvents}
 use Rattle.lorentzian_regge.proofs.TableSteps.{ten-events, pent-five, own-edges, own-triangles, pass-turn}
-use Rattle.lorentzian_regge.proofs.table.add_all.Statement.{statement}
-use Rattle.lorentzian_regge.proofs.table.add_all.Tie as tie
+use Rattle.lorentzian_regge.proofs.table.add_all_dihedrals.Statement.{statement}
+use Rattle.lorentzian_regge.proofs.table.add_all_dihedrals.Tie as tie
 
 -- the dihedrals of the pentachorons before p
 abbrev before : FaceLists → List Float → ℕ → List (ℕ × Dihedral)
@@ -94,16 +94,16 @@ same-length-2 : tie.Need-same-length-2 Inv-loop μ-loop
 same-length-2 c = c .before .before .loop .inv .2
 
 returns : tie.Need-returns Inv-loop μ-loop
-unfolding allDihedrals
+unfolding passDihedrals
 returns c =
     let a = c .before .before .before .before .before .before .before .before .before .before .before .args in
     let l = c .before .before .loop in
     let F : FaceLists = facesIn (a .counts) (a .pents .now) (a .edges .now) (a .triangles .now) in
-    let e : before F (a .sq-lengths .now) (l .p) ≡ allDihedrals F (a .sq-lengths .now) = ap (gather (dihedrals F (a .sq-lengths .now))) (take-all (l .p) (F .pents) (omega (arith, length-rows 5 (a .counts .pentachorons) (a .pents .now)))) in
+    let e : before F (a .sq-lengths .now) (l .p) ≡ passDihedrals F (a .sq-lengths .now) = ap (gather (dihedrals F (a .sq-lengths .now))) (take-all (l .p) (F .pents) (omega (arith, length-rows 5 (a .counts .pentachorons) (a .pents .now)))) in
     (l .inv .3 ∙ ap (λ es. scatter nan plus es (a .sums .now)) e, l .inv .4 ∙ ap (λ es. scatter 0 firstByte es (a .kinds .now)) e)
 
-pub add-all-spec : {M : Type 1} → statement M
-add-all-spec =
+pub add-all-dihedrals-spec : {M : Type 1} → statement M
+add-all-dihedrals-spec =
     tie.close
     (tie.spec
     Inv-loop

@@ -1,10 +1,10 @@
--- `lorentzian_regge::hinge::kind_of` meets its contract. Assumes nothing.
+-- `lorentzian_regge::hinge::kind_in` meets its contract. Assumes nothing.
 use Prim.Native.Nat.{ℕ, zero, suc}
 use mathlib.Core.Path.{_≡_, refl, sym}
 use Rattle.lorentzian_regge.specs.declared.hinge.KindByte.the-variants.{NoKind}
 use Rattle.lorentzian_regge.specs.Hinges.{kindIn}
-use Rattle.lorentzian_regge.proofs.hinge.kind_of.Statement.{statement}
-use Rattle.lorentzian_regge.proofs.hinge.kind_of.Tie as tie
+use Rattle.lorentzian_regge.proofs.hinge.kind_in.Statement.{statement}
+use Rattle.lorentzian_regge.proofs.hinge.kind_in.Tie as tie
 
 -- a byte that is neither 0 nor 1 is no kind
 no-kind : (n : ℕ) → (n ≡ 0 → ⊥) → (n ≡ 1 → ⊥) → kindIn n ≡ NoKind
@@ -21,5 +21,5 @@ returns-2 c = rw (c .match .keys2) refl
 returns-3 : tie.Need-returns-3
 returns-3 c = sym (no-kind (c .before .args .byte) (c .match .rest .0 .1) (c .match .rest .1))
 
-pub kind-of-spec : {M : Type 1} → statement M
-kind-of-spec = tie.close (tie.spec returns returns-2 returns-3)
+pub kind-in-spec : {M : Type 1} → statement M
+kind-in-spec = tie.close (tie.spec returns returns-2 returns-3)

@@ -1,10 +1,10 @@
--- `lorentzian_regge::gradient::pull_of` meets its contract. Assumes nothing.
+-- `lorentzian_regge::gradient::contribution_of` meets its contract. Assumes nothing.
 use mathlib.Core.Path.{refl}
 use borrow.Author.Needs.{needs}
 use Rattle.lorentzian.specs.Triangle.{areaSqGrad}
-use Rattle.lorentzian_regge.specs.Action.{pullOf}
-use Rattle.lorentzian_regge.proofs.gradient.pull_of.Statement.{statement}
-use Rattle.lorentzian_regge.proofs.gradient.pull_of.Tie as tie
+use Rattle.lorentzian_regge.specs.Action.{contributionOf}
+use Rattle.lorentzian_regge.proofs.gradient.contribution_of.Statement.{statement}
+use Rattle.lorentzian_regge.proofs.gradient.contribution_of.Tie as tie
 
 array-read-triangle-area-sq-lorentzian : tie.Need-array-read-triangle-area-sq-lorentzian
 array-read-triangle-area-sq-lorentzian c = search needs
@@ -17,9 +17,6 @@ array-read-triangle-area-sq-lorentzian-3 c = search needs
 
 triangle-area-sq-lorentzian-requires : tie.Need-triangle-area-sq-lorentzian-requires
 triangle-area-sq-lorentzian-requires c κs = search needs
-
-abs-area-requires : tie.Need-abs-area-requires
-abs-area-requires c κs = search needs
 
 factor-of-requires : tie.Need-factor-of-requires
 factor-of-requires c κs = search needs
@@ -36,34 +33,33 @@ array-read-triangle-area-sq-grad-3 c = search needs
 triangle-area-sq-grad-requires : tie.Need-triangle-area-sq-grad-requires
 triangle-area-sq-grad-requires c κs = search needs
 
-array-read-t12 : tie.Need-array-read-t12
-array-read-t12 c = search needs
+array-read-t10 : tie.Need-array-read-t10
+array-read-t10 c = search needs
 
-array-read-t6 : tie.Need-array-read-t6
-array-read-t6 c = search needs
+array-read-t7 : tie.Need-array-read-t7
+array-read-t7 c = search needs
 
-array-read-t31 : tie.Need-array-read-t31
-array-read-t31 c = search needs
+array-read-t32 : tie.Need-array-read-t32
+array-read-t32 c = search needs
 
 returns : tie.Need-returns
-unfolding pullOf areaSqGrad
-returns c = rw (c .triangle-area-sq-grad .ensures, c .before .factor-of .ensures, c .before .before .abs-area .ensures, c .before .before .before .triangle-area-sq-lorentzian .ensures) refl
+unfolding contributionOf areaSqGrad
+returns c = rw (c .triangle-area-sq-grad .ensures, c .before .factor-of .ensures, c .before .before .triangle-area-sq-lorentzian .ensures) refl
 
-pub pull-of-spec : {M : Type 1} → statement M
-pull-of-spec =
+pub contribution-of-spec : {M : Type 1} → statement M
+contribution-of-spec =
     tie.close
     (tie.spec
     array-read-triangle-area-sq-lorentzian
     array-read-triangle-area-sq-lorentzian-2
     array-read-triangle-area-sq-lorentzian-3
     triangle-area-sq-lorentzian-requires
-    abs-area-requires
     factor-of-requires
     array-read-triangle-area-sq-grad
     array-read-triangle-area-sq-grad-2
     array-read-triangle-area-sq-grad-3
     triangle-area-sq-grad-requires
-    array-read-t12
-    array-read-t6
-    array-read-t31
+    array-read-t10
+    array-read-t7
+    array-read-t32
     returns)

@@ -1,9 +1,9 @@
--- `lorentzian_regge::hinge::KindByte::or_of` meets its contract. Assumes nothing.
+-- `lorentzian_regge::hinge::KindByte::or_kind_of` meets its contract. Assumes nothing.
 use mathlib.Core.Path.{refl}
 use borrow.Author.Needs.{needs}
 use Rattle.lorentzian_regge.specs.Hinges.{first}
-use Rattle.lorentzian_regge.proofs.hinge.KindByte.or_of.Statement.{statement}
-use Rattle.lorentzian_regge.proofs.hinge.KindByte.or_of.Tie as tie
+use Rattle.lorentzian_regge.proofs.hinge.KindByte.or_kind_of.Statement.{statement}
+use Rattle.lorentzian_regge.proofs.hinge.KindByte.or_kind_of.Tie as tie
 
 kind-requires : tie.Need-kind-requires
 kind-requires c κs = search needs
@@ -22,5 +22,5 @@ returns-2 : tie.Need-returns-2
 unfolding first
 returns-2 c = rw (c .enum-told .given .1, c .before .before .kind .ensures) refl
 
-pub or-of-spec : {M : Type 1} → statement M
-or-of-spec = tie.close (tie.spec kind-requires enum-known-self enum-told returns returns-2)
+pub or-kind-of-spec : {M : Type 1} → statement M
+or-kind-of-spec = tie.close (tie.spec kind-requires enum-known-self enum-told returns returns-2)

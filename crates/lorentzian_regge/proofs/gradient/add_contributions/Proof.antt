@@ -1,22 +1,22 @@
--- `lorentzian_regge::gradient::add_pulls` meets its contract. Assumes nothing.
+-- `lorentzian_regge::gradient::add_contributions` meets its contract. Assumes nothing.
 use mathlib.Core.Path.{refl}
 use native.Mathlib.Omega.{arith}
 use lib.ListN.{length-set}
 use borrow.Author.Needs.{needs}
 use Rattle.lists.specs.Loops.{scatter}
-use Rattle.lorentzian_regge.specs.Action.{pullsOf}
-use Rattle.lorentzian_regge.proofs.gradient.add_pulls.Statement.{statement}
-use Rattle.lorentzian_regge.proofs.gradient.add_pulls.Tie as tie
+use Rattle.lorentzian_regge.specs.Action.{contributionsOf}
+use Rattle.lorentzian_regge.proofs.gradient.add_contributions.Statement.{statement}
+use Rattle.lorentzian_regge.proofs.gradient.add_contributions.Tie as tie
 
 abs-area-requires : tie.Need-abs-area-requires
 abs-area-requires c κs = search needs
 
 returns : tie.Need-returns
-unfolding pullsOf scatter
-returns c = let e = c .before .abs-area .ensures in rw (← e, c .if1 .taken) refl
+unfolding contributionsOf scatter
+returns c = rw (← c .before .abs-area .ensures, c .if1 .taken) refl
 
-pull-of-requires : tie.Need-pull-of-requires
-pull-of-requires c κs = search needs
+contribution-of-requires : tie.Need-contribution-of-requires
+contribution-of-requires c κs = search needs
 
 array-read-grad : tie.Need-array-read-grad
 array-read-grad c = search needs
@@ -67,16 +67,16 @@ same-length : tie.Need-same-length
 same-length c = search needs
 
 returns-2 : tie.Need-returns-2
-unfolding pullsOf scatter
-returns-2 c = rw (← c .before .before .before .before .before .before .before .before .abs-area .ensures, c .before .before .before .before .before .before .before .if1 .left, c .before .before .before .before .before .before .pull-of .ensures) refl
+unfolding contributionsOf scatter
+returns-2 c = rw (← c .before .before .before .before .before .before .before .before .abs-area .ensures, c .before .before .before .before .before .before .before .if1 .left, c .before .before .before .before .before .before .contribution-of .ensures) refl
 
-pub add-pulls-spec : {M : Type 1} → statement M
-add-pulls-spec =
+pub add-contributions-spec : {M : Type 1} → statement M
+add-contributions-spec =
     tie.close
     (tie.spec
     abs-area-requires
     returns
-    pull-of-requires
+    contribution-of-requires
     array-read-grad
     cast-grad
     mul-grad
