@@ -30,12 +30,12 @@ sortedPents given = map sort (pentachorons given)
 
 -- ---- refusals
 
--- some vertex is not below n
+-- some number is not below n
 unfoldable pub tooLarge : ℕ → List ℕ → Bool
 tooLarge n [] = false
 tooLarge n (v ∷ p) = leb n v || tooLarge n p
 
--- some vertex stands twice
+-- some number stands twice
 unfoldable pub repeats : List ℕ → Bool
 repeats [] = false
 repeats (v ∷ p) = among v p || repeats p

@@ -20,13 +20,13 @@ pub struct Rooms {
     pub edge_to_pents_starts: usize,
 }
 
-// Whether some vertex of `pent` is not below n.
-fn too_large(n: usize, pent: &[u32]) -> bool
-    ensures { λ r. ⌜ r ≡ tooLarge n (now (pent .entry)) ⌝ }
+// Whether some number is not below n.
+pub fn too_large(n: usize, numbers: &[u32]) -> bool
+    ensures { λ r. ⌜ r ≡ tooLarge n (now (numbers .entry)) ⌝ }
 {
     let mut i = 0;
-    while i < pent.len() {
-        if n <= pent[i] as usize {
+    while i < numbers.len() {
+        if n <= numbers[i] as usize {
             return true;
         }
         i += 1;

@@ -10,6 +10,7 @@ mod numbering;
 mod sorting;
 
 use checks::Rooms;
+pub use checks::too_large;
 pub use comparison::check_built;
 pub use comparison::is_built;
 pub use comparison::is_built_noting;

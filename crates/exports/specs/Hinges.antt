@@ -8,11 +8,11 @@ use Rattle.refusals.specs.declared.Outcome.{Outcome}
 use Rattle.refusals.specs.declared.Outcome.the-variants.{Done}
 use Rattle.refusals.specs.Refusals.{outcomeNumber}
 use Rattle.complex.specs.Builder.{Lists}
+use Rattle.hinges.specs.Hinges.{FaceLists, facesIn, hinges, hingeIn}
+use Rattle.hinges.specs.Action as Action
 use Rattle.lorentzian_regge.specs.declared.signs.LengthSigns.{LengthSigns}
 use Rattle.lorentzian_regge.specs.declared.deficits.HingeAnswer.{HingeAnswer}
 use Rattle.lorentzian_regge.specs.declared.action.ActionAnswer.{ActionAnswer}
-use Rattle.lorentzian_regge.specs.Hinges.{FaceLists, facesIn, hinges, hingeIn}
-use Rattle.lorentzian_regge.specs.Action as Action
 use Rattle.lorentzian_regge.specs.Calls as Calls
 use Rattle.lorentzian_regge.specs.Calls.{lengthsCheckOf, builtCheckOf, roomCheckOf, triangleCheckOf, shortTable, shortGradient, hingeBy, hingeNumber, deficitOr, kindByteOr, actionBy, actionNumber, actionOr}
 use Rattle.exports.specs.Complexes.{countsOfList}

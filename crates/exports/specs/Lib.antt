@@ -2,3 +2,4 @@
 pub mod Complexes
 pub mod Lattices
 pub mod Hinges
+pub mod Local

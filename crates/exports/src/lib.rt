@@ -1,5 +1,6 @@
 // The library's functions for C and Rust to call, on numbers and slices alone.
-mod hinges;
+mod local;
+mod regge;
 
 use complex::Counts;
 use complex::check_built;

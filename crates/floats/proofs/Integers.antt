@@ -84,7 +84,11 @@ neg-units f q k = go (ltb (q * 2 ^ k) (2 ^ (low f + suc (emax f))))
     go true = neg-odd (suc (prec f)) q k (low f)
     go false = refl
 
+-- the other sign rounds to the same size
+pub neg-round : (f : Format) (num den : ℕ) → neg (round f false num den) ≡ round f true num den
+neg-round f num den = ap neg (round-is f false num den) ∙ neg-units f _ _ ∙ sym (round-is f true num den)
+
 -- a negative integer's double is that of its size, negated
 pub neg-ofInt : (f : Format) (n : ℕ) → neg (ofInt f (pos (suc n))) ≡ ofInt f (negsuc n)
 unfolding ofInt
-neg-ofInt f n = ap neg (round-is f false (suc n) 1) ∙ neg-units f _ _ ∙ sym (round-is f true (suc n) 1)
+neg-ofInt f n = neg-round f (suc n) 1

@@ -9,3 +9,4 @@ pub mod Exact
 pub mod Integers
 pub mod Related
 pub mod Bounds
+pub mod Sums

@@ -1,12 +1,12 @@
 -- What a call over a complex has where its checks let it pass, and what it answers where they don't. Assumes nothing.
-use Prim.Native.Nat.{ℕ, _≤_, _<_}
-use mathlib.Core.Path.{_≡_, refl, sym, ap, _∙_, subst}
+use Prim.Native.Nat.{ℕ, _*_, _≤_, _<_}
 use mathlib.Core.Bool.{Bool, true, false, not, cond}
 use mathlib.Core.List.{List, map, List·Memᴰ}
+use mathlib.Core.Path.{_≡_, refl, sym, ap, _∙_, subst}
 use native.Mathlib.Omega.{arith}
 use lib.Dec.{eqb, ltb}
-use lib.ListN.{length}
 use lib.Ieee.{Float}
+use lib.ListN.{length}
 use borrow.Author.Tests.{eqb-true, ltb-true, not-false}
 use Rattle.refusals.specs.declared.Refusal.{Refusal}
 use Rattle.refusals.specs.declared.Refusal.the-variants.{ShortRoom, NotBuilt, LengthCount, BadIndex}
@@ -17,27 +17,35 @@ use Rattle.lists.proofs.Tests.{said}
 use Rattle.lists.proofs.Keys.{firsts-room}
 use Rattle.lists.proofs.Rows.{length-rows}
 use Rattle.complex.specs.declared.Counts.{Counts}
+use Rattle.complex.specs.declared.numbering.Face.{Face}
 use Rattle.complex.specs.declared.numbering.Face.the-variants.{Edge, Triangle}
-use Rattle.complex.specs.Complex.{metFaces, faces, triangles, triToPents}
+use Rattle.complex.specs.Complex.{countOf, metFaces, faces, triangles, triToPents}
 use Rattle.complex.specs.Builder.{Lists}
 use Rattle.complex.specs.Check.{pentsIn, isBuilt}
 use Rattle.complex.proofs.Offences.{cond-done}
 use Rattle.complex.proofs.Meetings.{length-met}
 use Rattle.complex.proofs.Lying.{faces-has, edge-of-triangle}
 use Rattle.complex.proofs.BuiltComplex.{IsBuilt, built-says, built-sorted, built-wide, built-edges, built-triangles, built-tri-to-pents, built-pent-edges, built-pent-tris, built-simplices, built-lie}
-use Rattle.lorentzian_regge.specs.Hinges.{FaceLists, builtFaces, facesIn, hinges, hingeAt}
+use Rattle.hinges.specs.Hinges.{FaceLists, builtFaces, facesIn, hinges, hingeAt}
+use Rattle.hinges.specs.Parts.{Measured}
+use Rattle.hinges.proofs.OnePass.{built-one-pass}
 use Rattle.lorentzian_regge.specs.Calls.{BuiltWith, lengthsCheckOf, builtCheckOf, roomCheckOf, triangleCheckOf}
-use Rattle.lorentzian_regge.specs.Parts.{Measured}
-use Rattle.lorentzian_regge.proofs.OnePass.{built-one-pass}
 
 -- ---- a built complex
 
 module _ (c : Counts) (l : Lists) (b : IsBuilt c l) where
-  most-triangles : c .triangles ≤ 81920
+  -- no pentachoron has more than ten of a kind
+  most : (f : Face) (m : ℕ) → countOf f ≡ 10 → m ≡ length (faces f (pentsIn c (l .pents))) → m ≤ 81920
   unfolding faces
-  most-triangles =
+  most f m ten e =
       let ps = pentsIn c (l .pents) in
-      omega (arith, b .has-triangles .count, firsts-room (metFaces Triangle ps), length-met Triangle ps (built-wide c l b), length-rows 5 (c .pentachorons) (l .pents), b .few)
+      omega (arith, firsts-room (metFaces f ps), length-met f ps (built-wide c l b) ∙ ap (λ (k : ℕ). k * length ps) ten, length-rows 5 (c .pentachorons) (l .pents), b .few)
+
+  pub most-edges : c .edges ≤ 81920
+  most-edges = most Edge (c .edges) refl (b .has-edges .count)
+
+  most-triangles : c .triangles ≤ 81920
+  most-triangles = most Triangle (c .triangles) refl (b .has-triangles .count)
 
 -- it has all that the steps ask, where there are as many lengths as edges
 pub built-measured : (c : Counts) (l : Lists) (pe pt : List ℕ) (n : ℕ) → BuiltWith c l pe pt → n ≡ c .edges
@@ -84,8 +92,17 @@ pub room-passed : (short : Bool) → roomCheckOf short ≡ Done → short ≡ fa
 unfolding roomCheckOf
 room-passed short h = cond-done short ShortRoom Done h .0
 
+-- an output that is short, and one that is not
+pub room-short : roomCheckOf true ≡ Refused ShortRoom
+unfolding roomCheckOf
+room-short = refl
+
+pub room-enough : roomCheckOf false ≡ Done
+unfolding roomCheckOf
+room-enough = refl
+
 -- an outcome is not both
-done-not-refused : {r : Refusal} → Done ≡ Refused r → ⊥
+pub done-not-refused : {r : Refusal} → Done ≡ Refused r → ⊥
 done-not-refused e = let z : _≡_ {A = ℕ} 0 1 = cc in omega arith
 
 pub triangle-passed : (c : Counts) (t : ℕ) → triangleCheckOf c t ≡ Done → t < c .triangles

@@ -1,9 +1,5 @@
--- Laws on hinges, for proofs here and in the crates above.
-pub mod TableSteps
-pub mod TriangleSteps
-pub mod OnePass
-pub mod HingeKinds
-pub mod Skipped
+-- Laws on calls over a complex and on length signs, for proofs here and in the crates above.
 pub mod OneSign
 pub mod BuiltCalls
+pub mod LocalSteps
 pub mod Scratch

@@ -13,17 +13,18 @@ use Rattle.lists.specs.Keys.{find}
 use Rattle.lists.specs.Rows.{over}
 use Rattle.lists.specs.Groups.{Below}
 use Rattle.lists.specs.Loops.{scatter}
-use Rattle.lists.proofs.Elements.{getD-mem, gather-same, mem-gather, mem-upto, length-upto}
+use Rattle.lists.proofs.Elements.{getD-mem, gather-same, mem-gather, mem-upto}
 use Rattle.lists.proofs.Loops.{length-scatter, scatter-front}
 use Rattle.lists.proofs.Folds.{fold-same}
 use Rattle.lists.proofs.Rows.{length-rows}
 use Rattle.complex.specs.declared.Counts.{Counts}
 use Rattle.complex.specs.Check.{edgesIn, trianglesIn}
 use Rattle.complex.proofs.FaceNumbers.{three-edges}
-use Rattle.lorentzian_regge.specs.Hinges.{FaceLists, facesIn, hinges, deficitsOf}
-use Rattle.lorentzian_regge.specs.Action.{edgesAt, triLengths, absArea, areaLimit, actionOf, action, atThree, contributionOf, contributionsOf, contributions, gradientOf, gradient}
-use Rattle.lorentzian_regge.specs.Parts.{Measured}
-use Rattle.lorentzian_regge.proofs.TriangleSteps.{edges-below}
+use Rattle.hinges.specs.Hinges.{FaceLists, facesIn, hinges, deficitsOf}
+use Rattle.hinges.specs.Action.{edgesAt, triLengths, absArea, areaLimit, actionOf, action, atThree, contributionOf, contributionsOf, contributions, gradientOf, gradient}
+use Rattle.hinges.specs.Parts.{Measured}
+use Rattle.hinges.proofs.TableSteps.{length-hinges}
+use Rattle.hinges.proofs.TriangleSteps.{edges-below}
 
 -- room for a number in a list of scratch
 pub scratch-room : {A : Type 0} (m : ℕ) (large : m ≡ 81920) (x : A) (xs : List A) → xs ≡ replicate m x → (n : ℕ) → n ≤ 81920 → n ≤ length xs
@@ -31,14 +32,10 @@ scratch-room m large x xs e n h = omega (arith, ap length e, length-replicate m 
 
 -- ---- the front of a list
 
-length-deficits : (F : FaceLists) (ls : List Float) → length (deficitsOf (hinges F ls)) ≡ length (F .triangles)
-unfolding hinges
-length-deficits F ls = length-map (hinges F ls) (λ h. h .deficit) ∙ length-map (upto (length (F .triangles))) _ ∙ length-upto (length (F .triangles))
-
 front-at : (F : FaceLists) (ls old : List Float) (t : ℕ) → List·Memᴰ t (upto (length (F .triangles))) → getD (over (deficitsOf (hinges F ls)) old) t nan ≡ getD (deficitsOf (hinges F ls)) t nan
 unfolding over
 front-at F ls old t m =
-    List·getD-append (deficitsOf (hinges F ls)) (drop (length (deficitsOf (hinges F ls))) old) nan t (omega (arith, mem-upto (length (F .triangles)) t m, length-deficits F ls))
+    List·getD-append (deficitsOf (hinges F ls)) (drop (length (deficitsOf (hinges F ls))) old) nan t (omega (arith, mem-upto (length (F .triangles)) t m, length-hinges F ls (λ h. h .deficit)))
 
 -- the action reads the deficits of triangles alone
 pub action-front : (F : FaceLists) (ls old ds : List Float) → ds ≡ over (deficitsOf (hinges F ls)) old → actionOf F ls ds ≡ action F ls

@@ -1,26 +1,30 @@
 -- Calls over a complex and its squared lengths: when they are refused, what they answer, and what they leave in the lent lists. Definitions only.
 use Prim.Native.Nat.{ℕ}
-use mathlib.Core.Path.{_≡_}
 use mathlib.Core.Bool.{Bool, true, not, cond, _||_}
 use mathlib.Core.List.{List}
+use mathlib.Core.Path.{_≡_}
 use lib.Dec.{eqb, ltb}
 use lib.Ieee.{Float}
+use lib.ListN.{length}
 use Rattle.refusals.specs.Refusals.{numberOf}
-use Rattle.refusals.specs.declared.Refusal.the-variants.{ShortRoom, NotBuilt, LengthCount, BadIndex}
+use Rattle.refusals.specs.declared.Refusal.the-variants.{ShortRoom, NotBuilt, LengthCount, EdgeTooLarge, RepeatedEdge, BadIndex}
 use Rattle.refusals.specs.declared.Outcome.{Outcome}
 use Rattle.refusals.specs.declared.Outcome.the-variants.{Done, Refused}
 use Rattle.complex.specs.declared.Counts.{Counts}
-use Rattle.complex.specs.Builder.{Lists}
+use Rattle.complex.specs.Builder.{Lists, tooLarge, repeats}
 use Rattle.complex.specs.Check.{pentsIn, isBuilt, writtenAfter}
 use Rattle.complex.specs.Parts.{Noted}
 use Rattle.lorentzian.specs.Dihedral.{kindNumber}
-use Rattle.lorentzian_regge.specs.declared.hinge.Hinge.{Hinge}
+use Rattle.hinges.specs.declared.hinge.Hinge.{Hinge}
+use Rattle.hinges.specs.Hinges.{FaceLists, hinges, deficitsOf, kindsOf}
+use Rattle.hinges.specs.Action.{gradient}
+use Rattle.hinges.specs.Local.{localTriangles, localHinges, localGradient}
 use Rattle.lorentzian_regge.specs.declared.deficits.HingeAnswer.{HingeAnswer}
 use Rattle.lorentzian_regge.specs.declared.deficits.HingeAnswer.the-variants as HingeAnswer
+use Rattle.lorentzian_regge.specs.declared.local_deficits.LocalAnswer.{LocalAnswer}
+use Rattle.lorentzian_regge.specs.declared.local_deficits.LocalAnswer.the-variants as LocalAnswer
 use Rattle.lorentzian_regge.specs.declared.action.ActionAnswer.{ActionAnswer}
 use Rattle.lorentzian_regge.specs.declared.action.ActionAnswer.the-variants as ActionAnswer
-use Rattle.lorentzian_regge.specs.Hinges.{FaceLists, hinges, deficitsOf, kindsOf}
-use Rattle.lorentzian_regge.specs.Action.{gradient}
 
 -- ---- what a core asks
 
@@ -39,6 +43,10 @@ builtCheckOf c l others = cond (not (isBuilt c l)) (Refused NotBuilt) others
 unfoldable pub lengthsCheckOf : Counts → ℕ → Outcome → Outcome
 lengthsCheckOf c lengths others = cond (not (eqb lengths (c .edges))) (Refused LengthCount) others
 
+-- 9 where a free edge is not below the number of edges, then 10 where one stands twice, then what the other checks say
+unfoldable pub freeCheckOf : Counts → List ℕ → Outcome → Outcome
+freeCheckOf c free others = cond (tooLarge (c .edges) free) (Refused EdgeTooLarge) (cond (repeats free) (Refused RepeatedEdge) others)
+
 -- 5 where an output is short
 unfoldable pub roomCheckOf : Bool → Outcome
 roomCheckOf short = cond short (Refused ShortRoom) Done
@@ -54,6 +62,10 @@ shortTable c deficits kinds = ltb deficits (c .triangles) || ltb kinds (c .trian
 -- a list has fewer places than there are edges
 abbrev pub shortGradient : Counts → ℕ → Bool
 shortGradient c grad = ltb grad (c .edges)
+
+-- a list has fewer places than there are triangles on free edges
+abbrev pub shortLocal : FaceLists → List ℕ → ℕ → ℕ → ℕ → Bool
+shortLocal F free tris deficits kinds = let n = length (localTriangles F free) in ltb tris n || ltb deficits n || ltb kinds n
 
 -- ---- answers
 
@@ -82,6 +94,21 @@ abbrev pub kindByteOr : HingeAnswer → ℕ → ℕ
 kindByteOr (HingeAnswer.Done h) other = kindNumber (h .kind)
 kindByteOr (HingeAnswer.Refused r) other = other
 
+-- how many hinges, or the refusal
+abbrev pub countBy : Outcome → ℕ → LocalAnswer
+countBy Done n = LocalAnswer.Done n
+countBy (Refused r) n = LocalAnswer.Refused r
+
+-- the refusal's number, 0 for an answer
+abbrev pub countNumber : LocalAnswer → ℕ
+countNumber (LocalAnswer.Done n) = 0
+countNumber (LocalAnswer.Refused r) = numberOf r
+
+-- how many hinges, or another number for a refusal
+abbrev pub countOr : LocalAnswer → ℕ → ℕ
+countOr (LocalAnswer.Done n) other = n
+countOr (LocalAnswer.Refused r) other = other
+
 -- the action, or the refusal
 abbrev pub actionBy : Outcome → Float → ActionAnswer
 actionBy Done x = ActionAnswer.Done x
@@ -105,7 +132,22 @@ pub record Tabled (o : Outcome) (F : FaceLists) (ls ds : List Float) (ks : List 
   pub deficits : ds′ ≡ writtenAfter r (deficitsOf (hinges F ls)) ds
   pub kinds : ks′ ≡ writtenAfter r (kindsOf (hinges F ls)) ks
 
--- the gradient: the answer r of checks that say o, and the list of entries after the call
-pub record Graded (o : Outcome) (F : FaceLists) (ls old : List Float) (r : Outcome) (new : List Float) : Type 0 where
+-- hinges on free edges: the answer r of checks that say o, and the lists of triangles, deficits and kinds after the call
+pub record LocallyTabled (o : Outcome) (F : FaceLists) (ls : List Float) (free ts : List ℕ) (ds : List Float) (ks : List ℕ) (r : LocalAnswer) (ts′ : List ℕ) (ds′ : List Float) (ks′ : List ℕ) : Type 0 where
+  pub answered : r ≡ countBy o (length (localTriangles F free))
+  pub triangles : ts′ ≡ writtenAfter o (localTriangles F free) ts
+  pub deficits : ds′ ≡ writtenAfter o (deficitsOf (localHinges F ls free)) ds
+  pub kinds : ks′ ≡ writtenAfter o (kindsOf (localHinges F ls free)) ks
+
+-- a list of numbers: the answer r of checks that say o, and the list after the call, its beginning filled where there is an answer
+pub record Filled (o : Outcome) (content old : List Float) (r : Outcome) (new : List Float) : Type 0 where
   pub answered : r ≡ o
-  pub entries : new ≡ writtenAfter r (gradient F ls) old
+  pub entries : new ≡ writtenAfter r content old
+
+-- the gradient
+abbrev pub Graded : Outcome → FaceLists → List Float → List Float → Outcome → List Float → Type 0
+Graded o F ls old r new = Filled o (gradient F ls) old r new
+
+-- the gradient's entries at free edges
+abbrev pub LocallyGraded : Outcome → FaceLists → List Float → List ℕ → List Float → Outcome → List Float → Type 0
+LocallyGraded o F ls free old r new = Filled o (localGradient F ls free) old r new

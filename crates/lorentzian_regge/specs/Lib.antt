@@ -1,6 +1,4 @@
--- The definitions that contracts on hinges, action, gradient and length signs cite.
-pub mod Hinges
-pub mod Action
+-- The definitions that contracts on calls over a complex and on length signs cite.
 pub mod LengthSigns
 pub mod Calls
 pub mod Parts

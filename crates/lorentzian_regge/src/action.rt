@@ -1,12 +1,12 @@
 // The action of a complex.
-use crate::area::abs_area;
-use crate::area::tri_sq_lengths;
 use crate::checks::check_lengths;
-use crate::table::write_table;
 use complex::Counts;
 use complex::TriangleNumber;
 use complex::is_built_noting;
 use complex::tri_edge_indices;
+use hinges::abs_area;
+use hinges::tri_sq_lengths;
+use hinges::write_table;
 use refusals::Outcome;
 use refusals::Refusal;
 ghost use mathlib.Core.Path.{_≡_};
@@ -14,10 +14,10 @@ ghost use Prim.Native.Nat.{_≤_};
 ghost use lib.ListN.{length};
 ghost use Rattle.refusals.specs.declared.Outcome.the-variants.{Done};
 ghost use Rattle.complex.specs.Builder.{lists};
-ghost use Rattle.lorentzian_regge.specs.Hinges.{facesIn};
-ghost use Rattle.lorentzian_regge.specs.Action.{actionOf, action};
+ghost use Rattle.hinges.specs.Hinges.{facesIn};
+ghost use Rattle.hinges.specs.Action.{actionOf, action};
+ghost use Rattle.hinges.specs.Parts.{Measured};
 ghost use Rattle.lorentzian_regge.specs.Calls.{BuiltWith, lengthsCheckOf, builtCheckOf, actionBy, actionNumber, actionOr};
-ghost use Rattle.lorentzian_regge.specs.Parts.{Measured};
 
 // An action, or why there is none.
 pub enum ActionAnswer {

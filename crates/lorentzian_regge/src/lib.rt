@@ -2,14 +2,12 @@
 // action's gradient, and the signs of squared lengths. A function that ends in `_built` takes a built complex with its incidence
 // lists and does not check it again. NaN and infinities are lawful lengths.
 mod action;
-mod area;
 mod checks;
 mod deficits;
-mod dihedrals;
 mod gradient;
-mod hinge;
+mod local_deficits;
+mod local_gradient;
 mod signs;
-mod table;
 
 pub use action::ActionAnswer;
 pub use action::lorentzian_regge_action;
@@ -21,8 +19,13 @@ pub use deficits::lorentzian_deficit_angles;
 pub use deficits::lorentzian_deficit_angles_built;
 pub use gradient::lorentzian_regge_action_grad;
 pub use gradient::lorentzian_regge_action_grad_built;
-pub use hinge::Hinge;
-pub use hinge::KindByte;
-pub use hinge::kind_in;
+pub use hinges::Hinge;
+pub use hinges::KindByte;
+pub use hinges::kind_in;
+pub use local_deficits::LocalAnswer;
+pub use local_deficits::local_deficit_angles;
+pub use local_deficits::local_deficit_angles_built;
+pub use local_gradient::local_lorentzian_regge_action_grad;
+pub use local_gradient::local_lorentzian_regge_action_grad_built;
 pub use signs::LengthSigns;
 pub use signs::length_signs;

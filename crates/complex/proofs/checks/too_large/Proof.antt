@@ -12,10 +12,10 @@ use Rattle.complex.proofs.checks.too_large.Statement.{statement}
 use Rattle.complex.proofs.checks.too_large.Tie as tie
 
 abbrev Inv-loop : tie.InvT-loop
-Inv-loop n pent i₀ i = (i ≤ length pent) × (tooLarge n pent ≡ tooLarge n (drop i pent))
+Inv-loop n numbers i₀ i = (i ≤ length numbers) × (tooLarge n numbers ≡ tooLarge n (drop i numbers))
 
 abbrev μ-loop : tie.MeasureT-loop
-μ-loop n pent i₀ i = length pent - i
+μ-loop n numbers i₀ i = length numbers - i
 
 loop-holds : tie.Need-loop-holds Inv-loop μ-loop
 loop-holds c = search needs
@@ -31,7 +31,7 @@ cast-if1 c = omega (arith, c .shared-slice-known .given (c .before .before .loop
 
 returns : tie.Need-returns Inv-loop μ-loop
 unfolding tooLarge
-returns c = let a = c .before .before .before .before .args in let l = c .before .before .before .loop in sym (some-here (tooLarge (a .n)) (λ x l. leb (a .n) x) (λ x l. refl) (a .pent .now) (l .i) (omega arith) (le-leb _ _ (c .if1 .taken)) (l .inv .1))
+returns c = let a = c .before .before .before .before .args in let l = c .before .before .before .loop in sym (some-here (tooLarge (a .n)) (λ x l. leb (a .n) x) (λ x l. refl) (a .numbers .now) (l .i) (omega arith) (le-leb _ _ (c .if1 .taken)) (l .inv .1))
 
 add-i : tie.Need-add-i Inv-loop μ-loop
 add-i c = search needs
@@ -41,11 +41,11 @@ loop-less c = search needs
 
 loop-again : tie.Need-loop-again Inv-loop μ-loop
 unfolding tooLarge
-loop-again c = let a = c .before .before .before .before .args in let l = c .before .before .before .loop in (omega arith, some-next (tooLarge (a .n)) (λ x l. leb (a .n) x) (λ x l. refl) (a .pent .now) (l .i) (omega arith) (lt-leb _ _ (c .if1 .left)) (l .inv .1))
+loop-again c = let a = c .before .before .before .before .args in let l = c .before .before .before .loop in (omega arith, some-next (tooLarge (a .n)) (λ x l. leb (a .n) x) (λ x l. refl) (a .numbers .now) (l .i) (omega arith) (lt-leb _ _ (c .if1 .left)) (l .inv .1))
 
 returns-2 : tie.Need-returns-2 Inv-loop μ-loop
 unfolding tooLarge
-returns-2 c = let a = c .before .before .args in let l = c .before .loop in sym (some-none (tooLarge (a .n)) (λ x l. leb (a .n) x) (λ x l. refl) (a .pent .now) (l .i) (omega arith) refl (l .inv .1))
+returns-2 c = let a = c .before .before .args in let l = c .before .loop in sym (some-none (tooLarge (a .n)) (λ x l. leb (a .n) x) (λ x l. refl) (a .numbers .now) (l .i) (omega arith) refl (l .inv .1))
 
 pub too-large-spec : {M : Type 1} → statement M
 too-large-spec =

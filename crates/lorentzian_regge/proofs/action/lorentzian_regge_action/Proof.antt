@@ -5,8 +5,8 @@ use borrow.Author.Tests.{not-true, not-false}
 use borrow.Author.Needs.{needs}
 use Rattle.refusals.specs.declared.Outcome.the-variants as Outcome
 use Rattle.complex.specs.Builder.{lists}
-use Rattle.lorentzian_regge.specs.Hinges.{facesIn}
-use Rattle.lorentzian_regge.specs.Action.{action}
+use Rattle.hinges.specs.Hinges.{facesIn}
+use Rattle.hinges.specs.Action.{action}
 use Rattle.lorentzian_regge.specs.Calls.{lengthsCheckOf, actionBy}
 use Rattle.lorentzian_regge.proofs.BuiltCalls.{not-built, others-decide}
 use Rattle.lorentzian_regge.proofs.action.lorentzian_regge_action.Statement.{statement}

@@ -7,9 +7,9 @@ use borrow.Author.Needs.{needs}
 use Rattle.refusals.specs.declared.Outcome.the-variants as Outcome
 use Rattle.floats.specs.Ops.{zero}
 use Rattle.complex.specs.Builder.{lists}
+use Rattle.hinges.specs.Hinges.{facesIn}
+use Rattle.hinges.specs.Action.{action}
 use Rattle.lorentzian_regge.specs.declared.action.ActionAnswer.the-variants.{Done}
-use Rattle.lorentzian_regge.specs.Hinges.{facesIn}
-use Rattle.lorentzian_regge.specs.Action.{action}
 use Rattle.lorentzian_regge.specs.Calls.{actionBy}
 use Rattle.lorentzian_regge.proofs.BuiltCalls.{built-measured, lengths-passed}
 use Rattle.lorentzian_regge.proofs.Scratch.{scratch-room, action-front}

@@ -11,9 +11,9 @@ use Rattle.lists.specs.Lists.{upto}
 use Rattle.lists.proofs.Rows.{length-rows}
 use Rattle.lists.proofs.Folds.{fold-upto}
 use Rattle.complex.specs.Incidence.{edgeList}
-use Rattle.lorentzian_regge.specs.Hinges.{FaceLists, facesIn, lengthsAt}
-use Rattle.lorentzian_regge.specs.Action.{triLengths, absArea, actionOf}
-use Rattle.lorentzian_regge.proofs.TriangleSteps.{edges-below}
+use Rattle.hinges.specs.Hinges.{FaceLists, facesIn, lengthsAt}
+use Rattle.hinges.specs.Action.{triLengths, absArea, actionOf}
+use Rattle.hinges.proofs.TriangleSteps.{edges-below}
 use Rattle.lorentzian_regge.proofs.action.sum_up.Statement.{statement}
 use Rattle.lorentzian_regge.proofs.action.sum_up.Tie as tie
 

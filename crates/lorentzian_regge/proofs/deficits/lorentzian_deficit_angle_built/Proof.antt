@@ -3,8 +3,8 @@ use mathlib.Core.Path.{sym, ap, _∙_}
 use lib.ListN.{length}
 use borrow.Author.Needs.{needs}
 use Rattle.complex.specs.Builder.{lists}
+use Rattle.hinges.specs.Hinges.{facesIn, hinges, hingeIn}
 use Rattle.lorentzian_regge.specs.declared.deficits.HingeAnswer.the-variants.{Done}
-use Rattle.lorentzian_regge.specs.Hinges.{facesIn, hinges, hingeIn}
 use Rattle.lorentzian_regge.specs.Calls.{lengthsCheckOf, triangleCheckOf, hingeBy}
 use Rattle.lorentzian_regge.proofs.BuiltCalls.{built-measured, lengths-passed, triangle-passed}
 use Rattle.lorentzian_regge.proofs.deficits.lorentzian_deficit_angle_built.Statement.{statement}

@@ -10,9 +10,9 @@ use Rattle.lists.specs.Lists.{gather, upto}
 use Rattle.lists.specs.Loops.{scatter}
 use Rattle.lists.proofs.Loops.{scatter-turn}
 use Rattle.complex.specs.Incidence.{edgeList}
-use Rattle.lorentzian_regge.specs.Hinges.{FaceLists, facesIn, lengthsAt}
-use Rattle.lorentzian_regge.specs.Action.{edgesAt, triLengths, contributionsOf, contributions}
-use Rattle.lorentzian_regge.proofs.TriangleSteps.{edges-below}
+use Rattle.hinges.specs.Hinges.{FaceLists, facesIn, lengthsAt}
+use Rattle.hinges.specs.Action.{edgesAt, triLengths, contributionsOf, contributions}
+use Rattle.hinges.proofs.TriangleSteps.{edges-below}
 use Rattle.lorentzian_regge.proofs.gradient.add_all_contributions.Statement.{statement}
 use Rattle.lorentzian_regge.proofs.gradient.add_all_contributions.Tie as tie
 

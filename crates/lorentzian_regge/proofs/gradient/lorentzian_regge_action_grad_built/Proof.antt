@@ -8,7 +8,7 @@ use borrow.Author.Needs.{needs}
 use Rattle.floats.specs.Ops.{zero}
 use Rattle.lists.specs.Rows.{over}
 use Rattle.complex.specs.Builder.{lists}
-use Rattle.lorentzian_regge.specs.Hinges.{facesIn}
+use Rattle.hinges.specs.Hinges.{facesIn}
 use Rattle.lorentzian_regge.specs.Calls.{lengthsCheckOf, roomCheckOf, shortGradient}
 use Rattle.lorentzian_regge.proofs.BuiltCalls.{built-measured, lengths-passed, room-passed}
 use Rattle.lorentzian_regge.proofs.Scratch.{scratch-room, entries-over, gradient-front}
