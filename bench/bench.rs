@@ -1,4 +1,4 @@
-//! Times our from_pentachorons, lattices and hinges beside the Rust's on the same inputs and our check_built beside the Rust's deficits or, with the argument `stack`, measures the stack of our calls.
+//! Times our from_pentachorons, lattices, hinges and calls over free edges beside the Rust's on the same inputs and our check_built beside the Rust's deficits or, with the argument `stack`, measures the stack of our calls.
 mod check;
 mod hinges;
 #[path = "../oracle/hinges/library.rs"]
@@ -6,6 +6,7 @@ mod hinges_library;
 mod lattices;
 #[path = "../oracle/foliation/library.rs"]
 mod library;
+mod local;
 #[path = "../oracle/complex/ours.rs"]
 mod ours;
 mod stack;
@@ -122,6 +123,7 @@ fn main() -> ExitCode {
             check::times();
             lattices::times();
             hinges::times();
+            local::times();
         }
         ["stack"] => stack::measure(),
         _ => {

@@ -1,6 +1,7 @@
 //! How deep the stack of our call is: the stack below it is painted, and the paint that is gone afterwards is measured. For x86-64.
 use crate::hinges::{self, Hinges};
 use crate::lattices::{self, Edges, Listing, SIZE};
+use crate::local::{Local, some_edges};
 use crate::{Prepared, check, random};
 use calls::Complex;
 use calls::complexes::MOST_PENTS;
@@ -124,6 +125,44 @@ fn measure_all_hinges() {
     measure_hinges("no pents", &(4_096, vec![]), |_| ());
 }
 
+/// Measures the calls over so many free edges of a complex, changed by a function.
+fn measure_local(name: &str, complex: &Complex, free: usize, change: fn(&mut Local)) {
+    let complex = hinges::built(complex);
+    let edges = some_edges(&complex, free);
+    let calls: [(&str, fn(&mut Local) -> u32); 3] =
+        [("local deficits", Local::deficits), ("local gradient", Local::gradient), ("local Hessian", Local::hessian)];
+    for (function, call) in calls {
+        let mut local = Local::new(&complex, vec![1.0; complex.edges.len()], &edges);
+        change(&mut local);
+        measure_one(&format!("{function}, {} free edges, {name}", local.free.len()), move || call(&mut local));
+    }
+}
+
+/// Measures the calls over free edges, answered ones and refused ones.
+fn measure_all_local() {
+    let lattice = lattice(SIZE.0, SIZE.1);
+    measure_local("lattice 5, 4", &lattice, 100, |_| ());
+    measure_local("8192 pents, 4096 vertices", &random(4_096), 100, |_| ());
+    measure_local("lattice 5, 4", &lattice, 0, |_| ());
+    measure_local("lattice 5, 4, the last start wrong", &lattice, 100, |local| {
+        *local.check.lists[9].last_mut().unwrap() += 1;
+    });
+    measure_local("lattice 5, 4, a length too few", &lattice, 100, |local| {
+        local.lengths.pop();
+    });
+    measure_local("lattice 5, 4, the last outside", &lattice, 100, |local| {
+        *local.free.last_mut().unwrap() = u32::MAX;
+    });
+    measure_local("lattice 5, 4, the last twice", &lattice, 100, |local| {
+        *local.free.last_mut().unwrap() = local.free[0];
+    });
+    measure_local("lattice 5, 4, the outputs short", &lattice, 100, |local| {
+        local.kinds.clear();
+        local.grad.pop();
+        local.hessian.pop();
+    });
+}
+
 /// Measures answered calls, refused ones and one without pentachorons.
 pub fn measure() {
     let (n_vertices, mut outside) = random(4_096);
@@ -142,4 +181,5 @@ pub fn measure() {
     measure_check("no pents", &(4_096, vec![]), |_| ());
     measure_lattices();
     measure_all_hinges();
+    measure_all_local();
 }

@@ -2,7 +2,7 @@
 use calls::differences::Differences;
 
 /// The numbers with which a call is refused, in the order of the checks.
-const REFUSALS: [usize; 5] = [6, 7, 8, 11, 5];
+const REFUSALS: [usize; 7] = [6, 7, 8, 9, 10, 11, 5];
 
 /// How many calls were to be answered with each number.
 type Counts = [u64; 12];

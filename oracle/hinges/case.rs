@@ -4,16 +4,18 @@ use crate::guards::Guarded;
 use crate::library::{Lengths, Lists};
 use calls::checks::Check;
 use hinges::expected::{self, Answers};
+use phyz_regge::complex::SimplicialComplex;
 
 /// What guards the lengths.
 const GUARD: u64 = 0x5a5a_a5a5_5a5a_a5a5;
 
-/// Counts, lists and lengths between guards, and the altered Rust's answers, or 7 or 8.
+/// Counts, lists and lengths between guards, the complex that they are, or 7 or 8, and the altered Rust's answers.
 pub struct Case<'a> {
     complex: GuardedComplex<'a>,
     lengths: Guarded<u64>,
     given: Vec<u64>,
     lent: usize,
+    pub accepted: Result<SimplicialComplex, u32>,
     pub expected: Result<Answers, u32>,
 }
 
@@ -21,8 +23,10 @@ impl<'a> Case<'a> {
     /// Counts, lists and so many of these lengths: what isn't lent of them stands past what is.
     pub fn new(check: &'a Check, lengths: &[f64], lent: usize) -> Self {
         let given = expected::bits(lengths);
-        let (guarded, expected) = (Guarded::new(&given, GUARD), expected::over(check, &lengths[..lent]));
-        Case { complex: GuardedComplex::new(check), lengths: guarded, given, lent, expected }
+        let accepted = expected::accepted(check, &lengths[..lent]);
+        let expected = expected::over(&accepted, &lengths[..lent]);
+        let (complex, lengths) = (GuardedComplex::new(check), Guarded::new(&given, GUARD));
+        Case { complex, lengths, given, lent, accepted, expected }
     }
 
     /// The counts, lists and lengths as they are lent.

@@ -1,13 +1,13 @@
-//! Compares our library's hinges, action, gradient and length signs with the altered Rust's answers and their refusals with the table.
+//! Compares our library's hinges, action, gradients, Hessian and length signs with the altered Rust's answers and their refusals with the table.
 mod case;
-#[path = "../regge/distance.rs"]
-mod distance;
+mod compare_local;
 #[path = "../complex/guarded_complex.rs"]
 mod guarded_complex;
 #[path = "../complex/guards.rs"]
 mod guards;
 mod library;
 mod report;
+mod report_local;
 #[path = "../foliation/tally.rs"]
 mod tally;
 
@@ -18,6 +18,7 @@ use calls::damages::{DAMAGES, Damage};
 use calls::lattice::{flat_lengths, lattice};
 use calls::random::Random;
 use case::Case;
+use compare_local::CompareLocal;
 use hinges::expected;
 use hinges::facts::Facts;
 use hinges::simplexes::SORTS;
@@ -43,14 +44,24 @@ const SMALL_KINDS: [usize; 11] = [0, 1, 2, 3, 4, 5, 6, 7, 8, 10, 11];
 const DAMAGED: usize = 400;
 const WRONG: usize = 600;
 
+/// How many complexes get every choice of defects of a call over free edges.
+const COMBINED: usize = 120;
+
 /// How many lists with two lengths of the largest size are drawn for one pentachoron.
 const LARGEST: usize = 600;
+
+/// How many lists with an area or derivatives at the limit are drawn for one pentachoron and for small complexes.
+const LIMITS: usize = 400;
+
+/// How many lists and steps are drawn with which a Jacobian tells the two rules of a dihedral apart.
+const APART: usize = 100;
 
 /// How many lists of signs are drawn.
 const SIGNS: usize = 2_000;
 
-/// The name of lattices with flat lengths.
+/// The names of lattices with flat lengths, and of the smallest with any.
 const LATTICES: &str = "lattices, flat and moved";
+const SMALLEST: &str = "smallest lattices";
 
 /// How far flat lengths are moved at most; a lattice of more than so many vertices gets the first two.
 const MOVED: [f64; 4] = [0.01, 0.0, 0.4, 1e-13];
@@ -60,6 +71,7 @@ const LARGE: usize = 100;
 #[derive(Default)]
 struct Compare {
     report: Report,
+    local: CompareLocal,
     facts: Facts,
     lattice_distances: Distances,
     other_distances: Distances,
@@ -119,7 +131,11 @@ impl Compare {
         let mut case = Case::new(&check, lengths, lengths.len());
         self.facts.add(complex, lengths, case.expected.as_ref().ok().unwrap());
         let distances = if kind == LATTICES { &mut self.lattice_distances } else { &mut self.other_distances };
-        self.report.exact(kind, &mut case, &expected::unaltered(complex, lengths), distances);
+        let grad = self.report.exact(kind, &mut case, &expected::unaltered(complex, lengths), distances);
+        self.local.answered(kind, &mut case, lengths, &grad, every, kind == LATTICES);
+        if kind == SMALLEST {
+            self.local.all_edges(kind, &mut case, lengths, &grad, 1e-6);
+        }
         let triangles = complex.triangles.len();
         let outside = outside(random, triangles).into_iter().skip(if every { 0 } else { 3 });
         for tri in inside(random, triangles, every).into_iter().chain(outside) {
@@ -184,7 +200,7 @@ impl Compare {
             for number in 0..lengths::COUNT {
                 let (name, lengths) = lengths::drawn(&mut random, number, &complex);
                 count(&mut self.lengths, &name);
-                self.answered(&mut random, "smallest lattices", &complex, &lengths, false);
+                self.answered(&mut random, SMALLEST, &complex, &lengths, false);
             }
         }
     }
@@ -201,8 +217,46 @@ impl Compare {
         }
     }
 
-    /// Every function but the signs, with a triangle and outputs that are lawful, or that aren't.
-    fn refused(&mut self, random: &mut Random, kind: &str, case: &mut Case, lawful: bool) {
+    /// One pentachoron and small complexes with a triangle's area, or the derivatives of areas by an edge, at the limit.
+    fn limits(&mut self) {
+        let mut random = Random(1_103);
+        let one = SimplicialComplex::from_pentachorons(5, &[[0, 1, 2, 3, 4]]);
+        for number in 0..LIMITS {
+            let any = self.small(&mut random, number);
+            for complex in [&one, &any].into_iter().filter(|complex| !complex.edges.is_empty()) {
+                let draw = [lengths::triangle_at_limit, lengths::derivatives_at_limit][number % 2];
+                let lengths = draw(&mut random, complex);
+                count(&mut self.lengths, "points, an area or derivatives at 1e-30");
+                self.answered(&mut random, "an area or derivatives at 1e-30", complex, &lengths, false);
+            }
+        }
+    }
+
+    /// One pentachoron with lengths and steps that tell the two rules of a dihedral apart.
+    fn rules_apart(&mut self) {
+        let mut random = Random(1_104);
+        let complex = SimplicialComplex::from_pentachorons(5, &[[0, 1, 2, 3, 4]]);
+        let check = Check::new(&complex);
+        self.complexes += 1;
+        for _ in 0..APART {
+            let (lengths, step) = lengths::rules_apart(&mut random, &complex);
+            count(&mut self.lengths, "one pentachoron, a step from the limit of a product");
+            let mut case = Case::new(&check, &lengths, lengths.len());
+            let grad = self.report.gradient("a step from the limit of a product", &mut case, lengths.len());
+            self.local.all_edges("a step from the limit of a product", &mut case, &lengths, &grad, step);
+        }
+    }
+
+    /// Every function but the signs, with a triangle, free edges of a complex and outputs that are lawful, or that aren't.
+    fn refused(
+        &mut self,
+        random: &mut Random,
+        kind: &str,
+        case: &mut Case,
+        complex: &SimplicialComplex,
+        lengths: &[f64],
+        lawful: bool,
+    ) {
         let [triangles, edges] = case.sizes();
         let short = |random: &mut Random, places: usize| random.pick(&[0, places.saturating_sub(1)]);
         let (mut rooms, mut room, mut tri) = ([triangles; 2], edges, random.below(triangles.max(1)) as u32);
@@ -218,6 +272,7 @@ impl Compare {
         self.report.hinge(&kind, case, tri);
         self.report.action(&kind, case);
         self.report.gradient(&kind, case, room);
+        self.local.refused(&kind, case, complex, lengths, lawful);
     }
 
     /// A small complex of any kind.
@@ -245,7 +300,7 @@ impl Compare {
             for lent in [edges + 1, edges.saturating_sub(1), 0, 2 * edges, any] {
                 let mut case = Case::new(&check, &more, lent);
                 for lawful in [true, false] {
-                    self.refused(&mut random, "lengths of a wrong number", &mut case, lawful);
+                    self.refused(&mut random, "lengths of a wrong number", &mut case, &complex, &more[..lent], lawful);
                 }
             }
         }
@@ -269,10 +324,22 @@ impl Compare {
                 for (kind, lent) in [("damages", counted), ("damages", edges), ("damages, and lengths", wrong)] {
                     let mut case = Case::new(&check, &more, lent);
                     let lawful = random.below(2) == 0;
-                    self.refused(&mut random, kind, &mut case, lawful);
+                    self.refused(&mut random, kind, &mut case, &complex, &more[..lent], lawful);
                 }
             }
         }
+    }
+
+    /// Every choice of defects of a call over free edges, and lists longer than the edges.
+    fn combined(&mut self) {
+        let mut random = Random(1_500);
+        for number in 0..COMBINED {
+            let complex = self.small(&mut random, number);
+            self.local.combined(&complex, number);
+        }
+        let (n_vertices, pents) = lattice(2, 2);
+        let complex = SimplicialComplex::from_pentachorons(n_vertices, &as_rust(&pents));
+        self.local.long_lists(&complex, &flat_lengths((2, 2), &complex, 1.0, 0.5));
     }
 
     /// Lists of lengths of every sort, by themselves and together.
@@ -297,7 +364,9 @@ impl Compare {
         println!("distance of the unaltered Rust from us, no pass mark:");
         self.lattice_distances.print(LATTICES);
         self.other_distances.print("others");
-        [differences, self.facts.print()]
+        let missing = self.facts.print();
+        let local = self.local.print(LATTICES);
+        [differences + local[0], missing + local[1]]
     }
 }
 
@@ -308,8 +377,11 @@ fn main() -> ExitCode {
     compare.signs();
     compare.wrong_lengths();
     compare.damaged();
+    compare.combined();
     compare.small_lattices();
     compare.largest();
+    compare.limits();
+    compare.rules_apart();
     compare.complexes();
     compare.lattices();
     let [differences, missing] = compare.print();

@@ -31,10 +31,15 @@ pub fn unaltered(complex: &SimplicialComplex, lengths: &[f64]) -> Answers {
     answers!(phyz_regge, complex, lengths)
 }
 
-/// The altered Rust's answers to counts, lists and lengths, or 7 or 8.
-pub fn over(check: &Check, lengths: &[f64]) -> Result<Answers, u32> {
+/// The complex that counts and lists are, with lengths of the right number, or 7 or 8.
+pub fn accepted(check: &Check, lengths: &[f64]) -> Result<SimplicialComplex, u32> {
     let complex = checks::built(check).ok_or(7_u32)?;
-    if lengths.len() == complex.edges.len() { Ok(altered(&complex, lengths)) } else { Err(8) }
+    if lengths.len() == complex.edges.len() { Ok(complex) } else { Err(8) }
+}
+
+/// The altered Rust's answers to a complex and lengths, if they are accepted.
+pub fn over(accepted: &Result<SimplicialComplex, u32>, lengths: &[f64]) -> Result<Answers, u32> {
+    accepted.as_ref().map(|complex| altered(complex, lengths)).map_err(|number| *number)
 }
 
 /// The bits of some numbers.
@@ -43,7 +48,7 @@ pub fn bits(numbers: &[f64]) -> Vec<u64> {
 }
 
 /// Puts values at the start of an output.
-fn put<T: Copy>(output: &mut [T], values: &[T]) {
+pub fn put<T: Copy>(output: &mut [T], values: &[T]) {
     output[..values.len()].copy_from_slice(values);
 }
 

@@ -1,4 +1,5 @@
 //! What the Rust does with particular lengths, counted so that none of it goes without inputs.
+use crate::distance::agree;
 use crate::expected::Answers;
 use crate::lengths::{AREA_LIMIT, area};
 use altered::geometry::cofactor_6x6;
@@ -22,8 +23,14 @@ const NAMES: [&str; 8] = [
 #[derive(Default)]
 pub struct Facts([u64; NAMES.len()]);
 
+/// Prints each name's count; how many are 0.
+pub fn print(counts: &[u64], names: &[&str]) -> u64 {
+    counts.iter().zip(names).for_each(|(count, name)| println!("{name}: {count}"));
+    counts.iter().filter(|&&count| count == 0).count() as u64
+}
+
 /// The triangles of a pentachoron with their dihedrals and kinds there, in the order of the pairs of vertices that they leave.
-fn dihedrals(complex: &SimplicialComplex, pent: usize, lengths: &[f64]) -> Vec<(usize, f64, HingeType)> {
+pub fn dihedrals(complex: &SimplicialComplex, pent: usize, lengths: &[f64]) -> Vec<(usize, f64, HingeType)> {
     let matrix = cm_matrix_signed(&complex.pent_edge_lengths(pent, lengths));
     let diagonal: [f64; 5] = std::array::from_fn(|l| cofactor_6x6(&matrix, l + 1, l + 1));
     let pairs = (0..5).flat_map(|l| (l + 1..5).map(move |m| (l, m)));
@@ -49,8 +56,7 @@ impl Facts {
                 action += area * deficit;
             }
         }
-        let same = action.to_bits() == answers.action.to_bits() || action.is_nan() && answers.action.is_nan();
-        self.0[2] += u64::from(!same);
+        self.0[2] += u64::from(!agree(action, answers.action));
     }
 
     /// Counts a pentachoron that has one length NaN or infinite.
@@ -85,7 +91,6 @@ impl Facts {
 
     /// Prints the counts; how many are 0.
     pub fn print(&self) -> u64 {
-        self.0.iter().zip(NAMES).for_each(|(count, name)| println!("{name}: {count}"));
-        self.0.iter().filter(|&&count| count == 0).count() as u64
+        print(&self.0, &NAMES)
     }
 }

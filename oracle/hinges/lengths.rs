@@ -1,6 +1,7 @@
 //! The squared lengths of a complex's edges.
+use crate::facts::dihedrals;
 use crate::simplexes::{self, SORTS, between, signature};
-use altered::lorentzian::triangle_area_sq_lorentzian;
+use altered::lorentzian::{all_lorentzian_dihedrals, triangle_area_sq_lorentzian};
 use calls::complexes::shuffle;
 use calls::random::Random;
 use phyz_regge::complex::SimplicialComplex;
@@ -129,10 +130,32 @@ fn equal(random: &mut Random, complex: &SimplicialComplex) -> Vec<f64> {
     each(random, complex, |_| length)
 }
 
+/// The absolute squared area of a triangle.
+fn squared_area(complex: &SimplicialComplex, tri: usize, lengths: &[f64]) -> f64 {
+    let [s01, s02, s12] = complex.tri_edge_lengths(tri, lengths);
+    triangle_area_sq_lorentzian(s01, s02, s12).abs()
+}
+
 /// The absolute area of a triangle.
 pub fn area(complex: &SimplicialComplex, tri: usize, lengths: &[f64]) -> f64 {
-    let [s01, s02, s12] = complex.tri_edge_lengths(tri, lengths);
-    triangle_area_sq_lorentzian(s01, s02, s12).abs().sqrt()
+    squared_area(complex, tri, lengths).sqrt()
+}
+
+/// The lengths with these edges scaled about so, some ulps more or less: as it is asked for, if it can be found.
+fn scaled(
+    random: &mut Random,
+    lengths: &[f64],
+    edges: &[usize],
+    scale: f64,
+    asked: impl Fn(&[f64]) -> bool,
+) -> Vec<f64> {
+    let mut tries = (0..TRIES).map(|_| {
+        let (scale, mut scaled) = (random.nudged(scale, 8), lengths.to_vec());
+        edges.iter().for_each(|&edge| scaled[edge] *= scale);
+        scaled
+    });
+    let first = tries.next().unwrap();
+    tries.find(|lengths| asked(lengths)).unwrap_or(first)
 }
 
 /// Points scaled so that the area of a triangle is at the limit, or a neighbour of it.
@@ -144,12 +167,47 @@ pub fn at_area(random: &mut Random, complex: &SimplicialComplex) -> Vec<f64> {
     let tri = random.below(complex.triangles.len());
     let scale = AREA_LIMIT / area(complex, tri, &lengths);
     let target = random.nudged(AREA_LIMIT, 1);
-    let mut tries = (0..TRIES).map(|_| {
-        let scale = random.nudged(scale, 8);
-        lengths.iter().map(|length| length * scale).collect::<Vec<f64>>()
-    });
-    let first = tries.next().unwrap();
-    tries.find(|lengths| area(complex, tri, lengths) == target).unwrap_or(first)
+    let all: Vec<usize> = (0..lengths.len()).collect();
+    scaled(random, &lengths, &all, scale, |lengths| area(complex, tri, lengths) == target)
+}
+
+/// Points, but for one triangle, whose squared area is that of the limit, or a neighbour of it.
+pub fn triangle_at_limit(random: &mut Random, complex: &SimplicialComplex) -> Vec<f64> {
+    let (lengths, tri) = (minkowski(random, complex), random.below(complex.triangles.len()));
+    let (edges, scale) = (complex.tri_edge_indices(tri), AREA_LIMIT / area(complex, tri, &lengths));
+    let target = random.nudged(AREA_LIMIT * AREA_LIMIT, 3);
+    scaled(random, &lengths, &edges, scale, |lengths| squared_area(complex, tri, lengths) == target)
+}
+
+/// Points, but for the edges at both ends of one, such that the derivatives of areas by that one are at the limit or neighbours of it.
+pub fn derivatives_at_limit(random: &mut Random, complex: &SimplicialComplex) -> Vec<f64> {
+    let mut lengths = minkowski(random, complex);
+    let (edge, sign) = (random.below(lengths.len()), random.sign());
+    let [a, b] = complex.edges[edge];
+    for (length, ends) in lengths.iter_mut().zip(&complex.edges) {
+        if ends.contains(&a) {
+            *length = sign;
+        } else if ends.contains(&b) {
+            *length = -sign;
+        }
+    }
+    lengths[edge] = random.sign() * 8.0 * random.nudged(AREA_LIMIT, 1);
+    lengths
+}
+
+/// Lengths of one pentachoron, and a step with which the Jacobian comes to a simplex where the two rules give other dihedrals.
+pub fn rules_apart(random: &mut Random, complex: &SimplicialComplex) -> (Vec<f64>, f64) {
+    let kind = simplexes::KINDS.iter().find(|kind| kind.name == "product at 1e-60").unwrap();
+    loop {
+        let mut simplex = (kind.draw)(random, 0);
+        let other = all_lorentzian_dihedrals(&simplex);
+        let dihedrals = dihedrals(complex, 0, &simplex);
+        if dihedrals.into_iter().zip(other).any(|((_, value, _), (other, _))| value != other) {
+            let edge = random.below(10);
+            simplex[edge] /= 2.0;
+            return (simplex.to_vec(), simplex[edge]);
+        }
+    }
 }
 
 /// Lengths of one size whose products are subnormal, or about to overflow.

@@ -6,121 +6,85 @@ pub type Lists = [(*const u32, usize); 10];
 /// The squared lengths of its edges.
 pub type Lengths = (*const f64, usize);
 
-unsafe extern "C" {
-    fn cjapthumi_lorentzian_deficit_angles(
-        counts: *const usize,
-        pents: *const u32,
-        pents_len: usize,
-        edges: *const u32,
-        edges_len: usize,
-        triangles: *const u32,
-        triangles_len: usize,
-        tets: *const u32,
-        tets_len: usize,
-        tri_to_pents_items: *const u32,
-        tri_to_pents_items_len: usize,
-        tri_to_pents_starts: *const u32,
-        tri_to_pents_starts_len: usize,
-        edge_to_tris_items: *const u32,
-        edge_to_tris_items_len: usize,
-        edge_to_tris_starts: *const u32,
-        edge_to_tris_starts_len: usize,
-        edge_to_pents_items: *const u32,
-        edge_to_pents_items_len: usize,
-        edge_to_pents_starts: *const u32,
-        edge_to_pents_starts_len: usize,
-        sq_lengths: *const f64,
-        sq_lengths_len: usize,
+/// Declares functions that take counts, lists and lengths before what is named.
+macro_rules! declare {
+    ($($name:ident($($argument:ident: $kind:ty),+);)+) => {
+        unsafe extern "C" {
+            $(fn $name(
+                counts: *const usize,
+                pents: *const u32,
+                pents_len: usize,
+                edges: *const u32,
+                edges_len: usize,
+                triangles: *const u32,
+                triangles_len: usize,
+                tets: *const u32,
+                tets_len: usize,
+                tri_to_pents_items: *const u32,
+                tri_to_pents_items_len: usize,
+                tri_to_pents_starts: *const u32,
+                tri_to_pents_starts_len: usize,
+                edge_to_tris_items: *const u32,
+                edge_to_tris_items_len: usize,
+                edge_to_tris_starts: *const u32,
+                edge_to_tris_starts_len: usize,
+                edge_to_pents_items: *const u32,
+                edge_to_pents_items_len: usize,
+                edge_to_pents_starts: *const u32,
+                edge_to_pents_starts_len: usize,
+                sq_lengths: *const f64,
+                sq_lengths_len: usize,
+                $($argument: $kind),+
+            ) -> u32;)+
+        }
+    };
+}
+
+/// Calls such a function.
+macro_rules! call {
+    ($name:ident, $counts:ident, $lists:ident, $lengths:ident, $($argument:expr),+) => {{
+        let [l0, l1, l2, l3, l4, l5, l6, l7, l8, l9] = $lists;
+        unsafe {
+            $name(
+                $counts, l0.0, l0.1, l1.0, l1.1, l2.0, l2.1, l3.0, l3.1, l4.0, l4.1, l5.0, l5.1, l6.0, l6.1, l7.0,
+                l7.1, l8.0, l8.1, l9.0, l9.1, $lengths.0, $lengths.1, $($argument),+
+            )
+        }
+    }};
+}
+
+declare! {
+    cjapthumi_lorentzian_deficit_angles(deficits: *mut f64, deficits_len: usize, kinds: *mut u8, kinds_len: usize);
+    cjapthumi_lorentzian_deficit_angle(tri: u32, deficit: *mut f64, kind: *mut u8);
+    cjapthumi_lorentzian_regge_action(action: *mut f64);
+    cjapthumi_lorentzian_regge_action_grad(grad: *mut f64, grad_len: usize);
+    cjapthumi_local_deficit_angles(
+        free_edges: *const u32,
+        free_edges_len: usize,
+        tris: *mut u32,
+        tris_len: usize,
         deficits: *mut f64,
         deficits_len: usize,
         kinds: *mut u8,
         kinds_len: usize,
-    ) -> u32;
-
-    fn cjapthumi_lorentzian_deficit_angle(
-        counts: *const usize,
-        pents: *const u32,
-        pents_len: usize,
-        edges: *const u32,
-        edges_len: usize,
-        triangles: *const u32,
-        triangles_len: usize,
-        tets: *const u32,
-        tets_len: usize,
-        tri_to_pents_items: *const u32,
-        tri_to_pents_items_len: usize,
-        tri_to_pents_starts: *const u32,
-        tri_to_pents_starts_len: usize,
-        edge_to_tris_items: *const u32,
-        edge_to_tris_items_len: usize,
-        edge_to_tris_starts: *const u32,
-        edge_to_tris_starts_len: usize,
-        edge_to_pents_items: *const u32,
-        edge_to_pents_items_len: usize,
-        edge_to_pents_starts: *const u32,
-        edge_to_pents_starts_len: usize,
-        sq_lengths: *const f64,
-        sq_lengths_len: usize,
-        tri: u32,
-        deficit: *mut f64,
-        kind: *mut u8,
-    ) -> u32;
-
-    fn cjapthumi_lorentzian_regge_action(
-        counts: *const usize,
-        pents: *const u32,
-        pents_len: usize,
-        edges: *const u32,
-        edges_len: usize,
-        triangles: *const u32,
-        triangles_len: usize,
-        tets: *const u32,
-        tets_len: usize,
-        tri_to_pents_items: *const u32,
-        tri_to_pents_items_len: usize,
-        tri_to_pents_starts: *const u32,
-        tri_to_pents_starts_len: usize,
-        edge_to_tris_items: *const u32,
-        edge_to_tris_items_len: usize,
-        edge_to_tris_starts: *const u32,
-        edge_to_tris_starts_len: usize,
-        edge_to_pents_items: *const u32,
-        edge_to_pents_items_len: usize,
-        edge_to_pents_starts: *const u32,
-        edge_to_pents_starts_len: usize,
-        sq_lengths: *const f64,
-        sq_lengths_len: usize,
-        action: *mut f64,
-    ) -> u32;
-
-    fn cjapthumi_lorentzian_regge_action_grad(
-        counts: *const usize,
-        pents: *const u32,
-        pents_len: usize,
-        edges: *const u32,
-        edges_len: usize,
-        triangles: *const u32,
-        triangles_len: usize,
-        tets: *const u32,
-        tets_len: usize,
-        tri_to_pents_items: *const u32,
-        tri_to_pents_items_len: usize,
-        tri_to_pents_starts: *const u32,
-        tri_to_pents_starts_len: usize,
-        edge_to_tris_items: *const u32,
-        edge_to_tris_items_len: usize,
-        edge_to_tris_starts: *const u32,
-        edge_to_tris_starts_len: usize,
-        edge_to_pents_items: *const u32,
-        edge_to_pents_items_len: usize,
-        edge_to_pents_starts: *const u32,
-        edge_to_pents_starts_len: usize,
-        sq_lengths: *const f64,
-        sq_lengths_len: usize,
+        count: *mut usize
+    );
+    cjapthumi_local_lorentzian_regge_action_grad(
+        free_edges: *const u32,
+        free_edges_len: usize,
         grad: *mut f64,
-        grad_len: usize,
-    ) -> u32;
+        grad_len: usize
+    );
+    cjapthumi_local_lorentzian_regge_hessian(
+        free_edges: *const u32,
+        free_edges_len: usize,
+        fd_eps: f64,
+        hessian: *mut f64,
+        hessian_len: usize
+    );
+}
 
+unsafe extern "C" {
     fn cjapthumi_length_signs(sq_lengths: *const f64, sq_lengths_len: usize, counts: *mut usize);
 }
 
@@ -135,13 +99,7 @@ pub unsafe fn lorentzian_deficit_angles(
     deficits: (*mut f64, usize),
     kinds: (*mut u8, usize),
 ) -> u32 {
-    let [l0, l1, l2, l3, l4, l5, l6, l7, l8, l9] = lists;
-    unsafe {
-        cjapthumi_lorentzian_deficit_angles(
-            counts, l0.0, l0.1, l1.0, l1.1, l2.0, l2.1, l3.0, l3.1, l4.0, l4.1, l5.0, l5.1, l6.0, l6.1, l7.0, l7.1,
-            l8.0, l8.1, l9.0, l9.1, lengths.0, lengths.1, deficits.0, deficits.1, kinds.0, kinds.1,
-        )
-    }
+    call!(cjapthumi_lorentzian_deficit_angles, counts, lists, lengths, deficits.0, deficits.1, kinds.0, kinds.1)
 }
 
 /// Writes the deficit and the kind of a triangle.
@@ -156,13 +114,7 @@ pub unsafe fn lorentzian_deficit_angle(
     deficit: *mut f64,
     kind: *mut u8,
 ) -> u32 {
-    let [l0, l1, l2, l3, l4, l5, l6, l7, l8, l9] = lists;
-    unsafe {
-        cjapthumi_lorentzian_deficit_angle(
-            counts, l0.0, l0.1, l1.0, l1.1, l2.0, l2.1, l3.0, l3.1, l4.0, l4.1, l5.0, l5.1, l6.0, l6.1, l7.0, l7.1,
-            l8.0, l8.1, l9.0, l9.1, lengths.0, lengths.1, tri, deficit, kind,
-        )
-    }
+    call!(cjapthumi_lorentzian_deficit_angle, counts, lists, lengths, tri, deficit, kind)
 }
 
 /// Writes the action.
@@ -170,13 +122,7 @@ pub unsafe fn lorentzian_deficit_angle(
 /// # Safety
 /// The lists don't overlap, the five counts, the ten lists and the lengths can be read, the action be written.
 pub unsafe fn lorentzian_regge_action(counts: *const usize, lists: Lists, lengths: Lengths, action: *mut f64) -> u32 {
-    let [l0, l1, l2, l3, l4, l5, l6, l7, l8, l9] = lists;
-    unsafe {
-        cjapthumi_lorentzian_regge_action(
-            counts, l0.0, l0.1, l1.0, l1.1, l2.0, l2.1, l3.0, l3.1, l4.0, l4.1, l5.0, l5.1, l6.0, l6.1, l7.0, l7.1,
-            l8.0, l8.1, l9.0, l9.1, lengths.0, lengths.1, action,
-        )
-    }
+    call!(cjapthumi_lorentzian_regge_action, counts, lists, lengths, action)
 }
 
 /// Writes the action's gradient.
@@ -189,13 +135,71 @@ pub unsafe fn lorentzian_regge_action_grad(
     lengths: Lengths,
     grad: (*mut f64, usize),
 ) -> u32 {
-    let [l0, l1, l2, l3, l4, l5, l6, l7, l8, l9] = lists;
-    unsafe {
-        cjapthumi_lorentzian_regge_action_grad(
-            counts, l0.0, l0.1, l1.0, l1.1, l2.0, l2.1, l3.0, l3.1, l4.0, l4.1, l5.0, l5.1, l6.0, l6.1, l7.0, l7.1,
-            l8.0, l8.1, l9.0, l9.1, lengths.0, lengths.1, grad.0, grad.1,
-        )
-    }
+    call!(cjapthumi_lorentzian_regge_action_grad, counts, lists, lengths, grad.0, grad.1)
+}
+
+/// Writes the triangles on free edges, their deficits and kinds, and how many there are.
+///
+/// # Safety
+/// The lists don't overlap, the five counts, the ten lists, the lengths and the free edges can be read, the triangles, deficits, kinds and the count be written.
+pub unsafe fn local_deficit_angles(
+    (counts, lists, lengths): (*const usize, Lists, Lengths),
+    free: (*const u32, usize),
+    tris: (*mut u32, usize),
+    deficits: (*mut f64, usize),
+    kinds: (*mut u8, usize),
+    count: *mut usize,
+) -> u32 {
+    call!(
+        cjapthumi_local_deficit_angles,
+        counts,
+        lists,
+        lengths,
+        free.0,
+        free.1,
+        tris.0,
+        tris.1,
+        deficits.0,
+        deficits.1,
+        kinds.0,
+        kinds.1,
+        count
+    )
+}
+
+/// Writes the action's gradient at free edges.
+///
+/// # Safety
+/// The lists don't overlap, the five counts, the ten lists, the lengths and the free edges can be read, the gradient be written.
+pub unsafe fn local_lorentzian_regge_action_grad(
+    (counts, lists, lengths): (*const usize, Lists, Lengths),
+    free: (*const u32, usize),
+    grad: (*mut f64, usize),
+) -> u32 {
+    call!(cjapthumi_local_lorentzian_regge_action_grad, counts, lists, lengths, free.0, free.1, grad.0, grad.1)
+}
+
+/// Writes the action's Hessian at free edges, row after row.
+///
+/// # Safety
+/// The lists don't overlap, the five counts, the ten lists, the lengths and the free edges can be read, the Hessian be written.
+pub unsafe fn local_lorentzian_regge_hessian(
+    (counts, lists, lengths): (*const usize, Lists, Lengths),
+    free: (*const u32, usize),
+    fd_eps: f64,
+    hessian: (*mut f64, usize),
+) -> u32 {
+    call!(
+        cjapthumi_local_lorentzian_regge_hessian,
+        counts,
+        lists,
+        lengths,
+        free.0,
+        free.1,
+        fd_eps,
+        hessian.0,
+        hessian.1
+    )
 }
 
 /// Writes how many lengths are timelike, null and spacelike.

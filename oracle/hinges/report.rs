@@ -1,14 +1,14 @@
 //! Each call of our library, and how all that it left differs from what the altered Rust and the table say.
 use crate::case::Case;
-use crate::distance::{Distance, agree};
 use crate::guards::Guarded;
 use crate::library;
 use crate::tally::{Tally, of_numbers, of_values};
+use hinges::distance::{Distance, agree};
 use hinges::expected::{self, Answers};
 
 /// What guards the outputs.
-const GUARD: u64 = 0x5a5a_a5a5_5a5a_a5a5;
-const GUARD_BYTE: u8 = 0xa5;
+pub const GUARD: u64 = 0x5a5a_a5a5_5a5a_a5a5;
+pub const GUARD_BYTE: u8 = 0xa5;
 
 /// What was compared of each function.
 #[derive(Default)]
@@ -38,17 +38,17 @@ impl Distances {
 }
 
 /// What an output of so many doubles holds before a call: numbers, and every third a NaN whose payload must stay.
-fn doubles(room: usize) -> Vec<u64> {
+pub fn doubles(room: usize) -> Vec<u64> {
     (0..room as u64).map(|place| [0x1357, 0x7ff8, 0xc0de][place as usize % 3] << 48 | place + 1).collect()
 }
 
 /// What an output of so many kinds holds before a call.
-fn bytes(room: usize) -> Vec<u8> {
+pub fn bytes(room: usize) -> Vec<u8> {
     (0..room).map(|place| (place % 250) as u8 + 3).collect()
 }
 
 /// How an output's doubles differ from those expected; any NaN agrees with any in so many answers at its start.
-fn of_doubles(name: &str, ours: &[u64], expected: &[u64], answers: usize) -> Option<String> {
+pub fn of_doubles(name: &str, ours: &[u64], expected: &[u64], answers: usize) -> Option<String> {
     let double = |bits: u64| f64::from_bits(bits);
     let nans = |place: usize| place < answers && agree(double(ours[place]), double(expected[place]));
     let place = (0..ours.len()).find(|&place| ours[place] != expected[place] && !nans(place))?;
@@ -56,8 +56,13 @@ fn of_doubles(name: &str, ours: &[u64], expected: &[u64], answers: usize) -> Opt
 }
 
 /// How many answers an output starts with.
-fn answers(number: u32, count: usize) -> usize {
+pub fn answers(number: u32, count: usize) -> usize {
     if number == 0 { count } else { 0 }
+}
+
+/// Takes numbers without kinds into account, ours as bits.
+pub fn add_all(distance: &mut Distance, ours: &[u64], theirs: &[f64]) {
+    ours.iter().zip(theirs).for_each(|(ours, theirs)| distance.add((f64::from_bits(*ours), 0), (*theirs, 0)));
 }
 
 impl Report {
@@ -141,8 +146,8 @@ impl Report {
         self.signs.add(kind, 0, || format!("{given:x?}"), &found);
     }
 
-    /// Asks for deficits, action and gradient with outputs of just their room, and takes the unaltered Rust's distance into account.
-    pub fn exact(&mut self, kind: &str, case: &mut Case, unaltered: &Answers, distances: &mut Distances) {
+    /// Asks for deficits, action and gradient with outputs of just their room, and takes the unaltered Rust's distance into account; the gradient's bits.
+    pub fn exact(&mut self, kind: &str, case: &mut Case, unaltered: &Answers, distances: &mut Distances) -> Vec<u64> {
         let [triangles, edges] = case.sizes();
         let (deficits, kinds) = self.table(kind, case, [triangles; 2]);
         for (tri, bits) in deficits.into_iter().enumerate() {
@@ -151,9 +156,9 @@ impl Report {
         }
         let action = f64::from_bits(self.action(kind, case));
         distances.action.add((action, 0), (unaltered.action, 0));
-        for (bits, theirs) in self.gradient(kind, case, edges).into_iter().zip(&unaltered.grad) {
-            distances.gradient.add((f64::from_bits(bits), 0), (*theirs, 0));
-        }
+        let grad = self.gradient(kind, case, edges);
+        add_all(&mut distances.gradient, &grad, &unaltered.grad);
+        grad
     }
 
     /// Prints the counts; how many calls differ.

@@ -1,15 +1,16 @@
 -- The parts of the check behind refusal 7, joined: what they ask, and that together they say that a complex is built. Assumes nothing.
-use Prim.Native.Nat.{ℕ, _+_, _*_, _≤_}
+use Prim.Native.Nat.{ℕ, _+_, _*_, _/_, _≤_}
 use mathlib.Core.Path.{_≡_, refl, sym, ap, _∙_}
 use mathlib.Core.Bool.{Bool, true, not, _&&_}
 use mathlib.Core.List.{List, _++_}
+use native.Mathlib.Nat.{mul-le-mul-right}
 use native.Mathlib.Omega.{arith}
 use lib.Dec.{eqb, leb}
 use lib.ListN.{length, take, drop}
 use borrow.Author.Tests.{leb-true, le-leb, eqb-false, ne-eqb, not-true}
-use Rattle.lists.specs.Rows.{Wide, over, begins}
+use Rattle.lists.specs.Rows.{Wide, rows, over, begins}
 use Rattle.lists.proofs.Tests.{says-by, says-same, said, passes, and-true}
-use Rattle.lists.proofs.Rows.{length-rows, rows-wide, begins-says, begins-long}
+use Rattle.lists.proofs.Rows.{length-rows, rows-wide, drop-later, begins-says, begins-long, begins-over}
 use Rattle.complex.specs.declared.Counts.{Counts}
 use Rattle.complex.specs.declared.numbering.Face.{Face}
 use Rattle.complex.specs.declared.numbering.Face.the-variants.{Edge, Triangle, Tet}
@@ -18,12 +19,13 @@ use Rattle.complex.specs.Complex.{countOf, edges, triangles, numbersOf}
 use Rattle.complex.specs.Builder.{Lists}
 use Rattle.complex.specs.Check.{pentsIn, edgesIn, trianglesIn, holds, isBuilt}
 use Rattle.complex.specs.CheckParts.{allRise, hasPents, hasFaces, hasAllFaces, hasAdjacency}
-use Rattle.complex.specs.Parts.{Holdable, Faced}
+use Rattle.complex.specs.Parts.{Noted, Noting, Holdable, Faced}
+use Rattle.complex.proofs.Meetings.{count-le}
 use Rattle.complex.proofs.FaceNumbers.{length-numbers}
 use Rattle.complex.proofs.FaceLists.{has-says, has-rows, has-room}
 use Rattle.complex.proofs.Rises.{all-rise-says}
 use Rattle.complex.proofs.Holdings.{tri-to-pents-total, edge-to-tris-total, edge-to-pents-total}
-use Rattle.complex.proofs.BuiltComplex.{IsBuilt, positive, built-says, built-sorted, built-wide}
+use Rattle.complex.proofs.BuiltComplex.{IsBuilt, positive, built-says, built-wide}
 
 -- ---- adjacency
 
@@ -162,9 +164,31 @@ module _ (c : Counts) (l : Lists) where
 
 -- ---- the numbers of edges and triangles
 
+-- where the comparison answers true, both lists begin with their numbers
+pub noted-of : {ps : List (List ℕ)} {r : Bool} {pe pt pe′ pt′ : List ℕ} → Noting ps r pe pt pe′ pt′ → r ≡ true → Noted ps pe′ pt′
+noted-of n t = record { edges = begins-over _ _ _ (n .edges t); triangles = begins-over _ _ _ (n .triangles t) }
+
+module _ (pents : List ℕ) where
+  -- the numbers of faces of any kind end before ten places for each pentachoron
+  pub faces-kept : (f : Face) (u u′ : List ℕ) → drop (countOf f * (length pents / 5)) u′ ≡ drop (countOf f * (length pents / 5)) u
+      → drop (10 * length (rows 5 (length pents / 5) pents)) u′ ≡ drop (10 * length (rows 5 (length pents / 5) pents)) u
+  faces-kept f u u′ e =
+      drop-later u′ u (countOf f * (length pents / 5)) (10 * length (rows 5 (length pents / 5) pents))
+      (omega (arith, mul-le-mul-right (length pents / 5) (count-le f), length-rows 5 (length pents / 5) pents)) e
+
+  -- the numbers of triangles cover what was written before those places
+  pub triangles-over : (u₀ u u′ : List ℕ) → drop (10 * length (rows 5 (length pents / 5) pents)) u ≡ drop (10 * length (rows 5 (length pents / 5) pents)) u₀
+      → u′ ≡ over (numbersOf Triangle (rows 5 (length pents / 5) pents)) u → u′ ≡ over (numbersOf Triangle (rows 5 (length pents / 5) pents)) u₀
+  unfolding over
+  triangles-over u₀ u u′ k e =
+      let numbers = numbersOf Triangle (rows 5 (length pents / 5) pents) in
+      let long : length numbers ≡ 10 * length (rows 5 (length pents / 5) pents) =
+      length-numbers (rows 5 (length pents / 5) pents) (rows-wide 5 (length pents / 5) pents (omega arith)) Triangle in
+      e ∙ ap (λ (r : List ℕ). numbers ++ r) (drop-later u u₀ (10 * length (rows 5 (length pents / 5) pents)) (length numbers) (omega (arith, long)) k)
+
 module _ (c : Counts) (l : Lists) (b : IsBuilt c l) (f : Face) (ten : countOf f ≡ 10) (numbers : List ℕ) (noted : begins (numbersOf f (pentsIn c (l .pents))) numbers ≡ true) where
   many : length (numbersOf f (pentsIn c (l .pents))) ≡ 10 * c .pentachorons
-  many = length-numbers (pentsIn c (l .pents)) (built-wide c l b) (built-sorted c l b) f ∙ rw (ten, length-rows 5 (c .pentachorons) (l .pents)) refl
+  many = length-numbers (pentsIn c (l .pents)) (built-wide c l b) f ∙ rw (ten, length-rows 5 (c .pentachorons) (l .pents)) refl
 
   front : take (length (numbersOf f (pentsIn c (l .pents)))) numbers ≡ numbersOf f (pentsIn c (l .pents))
   front = said (begins-says (numbersOf f (pentsIn c (l .pents))) numbers) noted

@@ -48,15 +48,15 @@ one-edge p h b i hb hi =
 
 -- ---- face numbers
 
+pub length-numbers : (ps : List (List ℕ)) → Wide 5 ps → (f : Face) → length (numbersOf f ps) ≡ countOf f * length ps
+unfolding numbersOf
+length-numbers ps five f = length-map (metFaces f ps) (λ s. find s (faces f ps)) ∙ length-met f ps five
+
 module _ (ps : List (List ℕ)) (five : Wide 5 ps) (up : Sorted ps) where
   -- face b of pentachoron a
   met-at : (f : Face) (a b : ℕ) → a < length ps → b < countOf f → getD (metFaces f ps) (countOf f * a + b) [] ≡ getD (facesOf f (getD ps a [])) b []
   unfolding metFaces
   met-at f a b ha hb = gather-at (facesOf f) (countOf f) ps [] [] (λ p m. count-faces f p (five p m)) a b ha hb
-
-  pub length-numbers : (f : Face) → length (numbersOf f ps) ≡ countOf f * length ps
-  unfolding numbersOf
-  length-numbers f = length-map (metFaces f ps) (λ s. find s (faces f ps)) ∙ length-met f ps five
 
   numbers-at : (f : Face) (k : ℕ) → k < countOf f * length ps → getD (numbersOf f ps) k 0 ≡ find (getD (metFaces f ps) k []) (faces f ps)
   unfolding numbersOf
@@ -69,7 +69,7 @@ module _ (ps : List (List ℕ)) (five : Wide 5 ps) (up : Sorted ps) where
 
   pub numbers-below : (f : Face) → Below (numbersOf f ps) (length (faces f ps))
   numbers-below f k h =
-      let b : k < countOf f * length ps = omega (arith, length-numbers f) in
+      let b : k < countOf f * length ps = omega (arith, length-numbers ps five f) in
       omega (arith, numbers-at f k b, find-mem (getD (metFaces f ps) k []) (faces f ps) (met-found f k b))
 
   -- each face is met
@@ -78,7 +78,7 @@ module _ (ps : List (List ℕ)) (five : Wide 5 ps) (up : Sorted ps) where
   face-met f t h =
       let m = mem-getD [] (firsts-only (metFaces f ps) (getD-mem (faces f ps) t [] h)) in
       let b : m .0 < countOf f * length ps = omega (arith, m .1, length-met f ps five) in
-      (m .0, omega (arith, length-numbers f), numbers-at f (m .0) b ∙ ap (λ (s : List ℕ). find s (faces f ps)) (m .2) ∙ faces-distinct f ps t h)
+      (m .0, omega (arith, length-numbers ps five f), numbers-at f (m .0) b ∙ ap (λ (s : List ℕ). find s (faces f ps)) (m .2) ∙ faces-distinct f ps t h)
 
   -- the face that has the number of the k-th that is met
   number-face : (f : Face) (k : ℕ) → k < countOf f * length ps → getD (faces f ps) (getD (numbersOf f ps) k 0) [] ≡ getD (metFaces f ps) k []
@@ -106,13 +106,13 @@ module _ (ps : List (List ℕ)) (five : Wide 5 ps) (up : Sorted ps) where
   pub consistent : (room : ℕ) → 3 * length (triangles ps) ≤ room → Consistent (numbersOf Edge ps) (numbersOf Triangle ps) room
   consistent room h =
       record {
-        whole = omega (arith, length-numbers Triangle);
-        alike = length-numbers Edge ∙ sym (length-numbers Triangle);
+        whole = omega (arith, length-numbers ps five Triangle);
+        alike = length-numbers ps five Edge ∙ sym (length-numbers ps five Triangle);
         places = λ k l. omega (arith, numbers-below Triangle k l);
         same = λ j k i hj hk hi e.
-            edge-at-is j i (omega (arith, length-numbers Triangle)) hi
+            edge-at-is j i (omega (arith, length-numbers ps five Triangle)) hi
             ∙ ap (λ (t : ℕ). find (getD (combos (getD (triangles ps) t []) 2) i []) (edges ps)) e
-            ∙ sym (edge-at-is k i (omega (arith, length-numbers Triangle)) hi);
+            ∙ sym (edge-at-is k i (omega (arith, length-numbers ps five Triangle)) hi);
       }
 
   pub faces-few : (f : Face) → length (faces f ps) ≤ countOf f * length ps
@@ -191,7 +191,7 @@ module _ (ps : List (List ℕ)) (five : Wide 5 ps) (up : Sorted ps) where
         let m = face-met Triangle (q / 3) t in
         let e : getD te q 0 ≡ find (getD (combos (getD (triangles ps) (q / 3) []) 2) (q % 3) []) (edges ps) =
         ap (λ (j : ℕ). getD te j 0) (sym z) ∙ ap (λ (u : ℕ). getD te (3 * u + q % 3) 0) (sym (m .2))
-        ∙ edges-of .edge (m .0) (q % 3) (m .1) i ∙ edge-at-is (m .0) (q % 3) (omega (arith, m .1, length-numbers Triangle)) i
+        ∙ edges-of .edge (m .0) (q % 3) (m .1) i ∙ edge-at-is (m .0) (q % 3) (omega (arith, m .1, length-numbers ps five Triangle)) i
         ∙ ap (λ (u : ℕ). find (getD (combos (getD (triangles ps) u []) 2) (q % 3) []) (edges ps)) (m .2) in
         getD-take (3 * T) te q 0 h ∙ e
         ∙ sym (ap (λ (j : ℕ). getD (gather (rowNumbers (edges ps) 2) (triangles ps)) j 0) (sym z)

@@ -10,7 +10,7 @@ use Rattle.lists.specs.Lists.{gather, combos}
 use Rattle.lists.specs.Rows.{rows, Wide}
 use Rattle.lists.specs.Chains.{Ready, Met}
 use Rattle.lists.proofs.Elements.{gather-snoc}
-use Rattle.lists.proofs.Rows.{length-rows, rows-snoc, rows-wide, row-below}
+use Rattle.lists.proofs.Rows.{length-rows, rows-snoc, rows-wide, row-below, length-part}
 use Rattle.lists.proofs.Chains.{indexed-none, met-count, met-rows, met-numbers}
 use Rattle.complex.specs.declared.numbering.Face.{Face}
 use Rattle.complex.specs.declared.numbering.Face.the-variants.{Edge, Triangle, Tet}
@@ -86,3 +86,7 @@ faces-fit Tet = omega arith
 -- the faces of pentachoron k start at place countOf f * k
 pub face-below : (f : Face) (k P : ℕ) → k < P → countOf f * k + countOf f ≤ countOf f * P
 face-below f k P h = row-below (countOf f) k P h
+
+-- and end among those of all
+pub faces-end : (f : Face) (k P : ℕ) (xs : List ℕ) → k < P → 5 * P ≤ length xs → countOf f * k + length (facesOf f (take 5 (drop (5 * k) xs))) ≤ countOf f * P
+faces-end f k P xs h l = omega (arith, count-faces f (take 5 (drop (5 * k) xs)) (length-part 5 k P xs h l), face-below f k P h)

@@ -67,13 +67,13 @@ module _ (given : List ℕ) (l : Lists) (ok : Buildable given l) where
 
   pub numbers-long : (f : Face) → countOf f ≡ 10 → length (numbersOf f (sortedPents given)) ≡ 2 * length given
   numbers-long f ten =
-      length-numbers (sortedPents given) (sorted-wide-all given) sorted-rising f ∙ rw (ten, many) (omega (arith, ok .whole))
+      length-numbers (sortedPents given) (sorted-wide-all given) f ∙ rw (ten, many) (omega (arith, ok .whole))
 
   pub numbers-part : (f : Face) → countOf f ≡ 10 → (u u′ : List ℕ) → u′ ≡ over (numbersOf f (sortedPents given)) u → take (2 * length given) u′ ≡ numbersOf f (sortedPents given)
   numbers-part f ten u u′ e = ap (take (2 * length given)) e ∙ over-take (numbersOf f (sortedPents given)) u (2 * length given) (numbers-long f ten)
 
   few-faces : (f : Face) → countOf f ≡ 10 → length (faces f (sortedPents given)) ≤ 2 * length given
-  few-faces f ten = omega (arith, faces-few (sortedPents given) (sorted-wide-all given) sorted-rising f, numbers-long f ten, length-numbers (sortedPents given) (sorted-wide-all given) sorted-rising f)
+  few-faces f ten = omega (arith, faces-few (sortedPents given) (sorted-wide-all given) sorted-rising f, numbers-long f ten, length-numbers (sortedPents given) (sorted-wide-all given) f)
 
   -- the lengths of the adjacency lists
   abbrev pub lent : Lent

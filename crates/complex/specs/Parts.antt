@@ -1,9 +1,9 @@
 -- What the parts of the builder and of the check ask and leave. Definitions only.
 use Prim.Native.Nat.{ℕ, _+_, _*_, _/_, _%_, _≤_, _<_}
 use mathlib.Core.Path.{_≡_}
-use mathlib.Core.Bool.{true}
+use mathlib.Core.Bool.{Bool, true}
 use mathlib.Core.List.{List, [], _∷_, map, List·Memᴰ}
-use lib.ListN.{length, getD}
+use lib.ListN.{length, getD, drop}
 use Rattle.lists.specs.Lists.{Once, Rising}
 use Rattle.lists.specs.Rows.{flat, rows, over, begins}
 use Rattle.lists.specs.Groups.{Below}
@@ -124,6 +124,14 @@ pub record Scratch (pents edges tris : ℕ) : Type 0 where
 pub record Noted (ps : List (List ℕ)) (pe pt : List ℕ) : Type 0 where
   pub edges : begins (numbersOf Edge ps) pe ≡ true
   pub triangles : begins (numbersOf Triangle ps) pt ≡ true
+
+-- two lent lists pe and pt after a comparison that answers r: where it is true they have the edge numbers and the triangle numbers of ps over their beginnings, and all other places are kept;
+-- where it is false the first ten places for each of ps are left in some state, and all others are kept
+pub record Noting (ps : List (List ℕ)) (r : Bool) (pe pt pe′ pt′ : List ℕ) : Type 0 where
+  pub edges : r ≡ true → pe′ ≡ over (numbersOf Edge ps) pe
+  pub triangles : r ≡ true → pt′ ≡ over (numbersOf Triangle ps) pt
+  pub edges-kept : drop (10 * length ps) pe′ ≡ drop (10 * length ps) pe
+  pub triangles-kept : drop (10 * length ps) pt′ ≡ drop (10 * length ps) pt
 
 -- keys and rows lie in their lists, and the total is how many rows the keys lie in, one key after the other
 pub record Holdable (keys : List ℕ) (k : Shape) (list : List ℕ) (s : Shape) (total : ℕ) : Type 0 where

@@ -8,14 +8,13 @@ use lists::copy_row;
 use refusals::Outcome;
 use refusals::Refusal;
 ghost use mathlib.Core.Path.{_≡_};
-ghost use mathlib.Core.Bool.{true};
 ghost use Prim.Native.Nat.{_+_, _*_, _/_, _≤_};
 ghost use lib.ListN.{length, take, drop};
 ghost use Rattle.lists.specs.Rows.{rows};
 ghost use Rattle.complex.specs.Builder.{lists};
 ghost use Rattle.complex.specs.Check.{pentsIn, isBuilt, Checked};
 ghost use Rattle.complex.specs.CheckParts.{rises, allRise, hasPents, hasAllFaces, hasAdjacency};
-ghost use Rattle.complex.specs.Parts.{Scratch, Noted, Faced};
+ghost use Rattle.complex.specs.Parts.{Scratch, Noting, Faced};
 
 // Whether the vertices of the pentachoron at `at` rise, and the last is below n.
 fn rises_at(n: usize, pents: &[u32], at: usize) -> bool
@@ -65,7 +64,7 @@ fn has_pents(counts: Counts, pents: &[u32]) -> bool
     all_rise(counts.vertices, &pents[..len])
 }
 
-// Whether the lists of faces are those of the pentachorons. The numbers of their edges and triangles are noted.
+// Whether the lists of faces are those of the pentachorons. The numbers of their edges and triangles are noted (`Noting`).
 fn has_all_faces(
     counts: Counts,
     pents: &[u32],
@@ -77,7 +76,7 @@ fn has_all_faces(
 ) -> bool
     requires { ⌜ Scratch (length (now pents)) (length (now «pent_edges»)) (length (now «pent_tris»)) ⌝ }
     ensures { λ r. ⌜ r ≡ hasAllFaces counts (rows 5 (length (now (pents .entry)) / 5) (now (pents .entry))) (now (edges .entry)) (now (triangles .entry)) (now (tets .entry)) ⌝ }
-    ensures { λ r. ⌜ (r ≡ true → Noted (rows 5 (length (now (pents .entry)) / 5) (now (pents .entry))) (now («pent_edges» .exit)) (now («pent_tris» .exit))) ⌝ }
+    ensures { λ r. ⌜ Noting (rows 5 (length (now (pents .entry)) / 5) (now (pents .entry))) r (now («pent_edges» .entry)) (now («pent_tris» .entry)) (now («pent_edges» .exit)) (now («pent_tris» .exit)) ⌝ }
 {
     let mut next = [0u32; 81920];
     if !has_faces(Face::Tet, pents, counts.tets, tets, &mut next, pent_tris) {
@@ -167,7 +166,7 @@ fn has_adjacency(
 }
 
 // Whether a complex is built, for a caller with scratch of its own: where it is, the numbers of the edges and triangles of each
-// pentachoron are noted; where it is not, what the two lists hold is left free.
+// pentachoron are noted; where it is not, the first ten places for each pentachoron are left free. All other places are kept.
 pub fn is_built_noting(
     counts: Counts,
     pents: &[u32],
@@ -187,7 +186,7 @@ pub fn is_built_noting(
     ensures { λ r. ⌜ r ≡ isBuilt counts (lists (now (pents .entry)) (now (edges .entry)) (now (triangles .entry)) (now (tets .entry))
         (now («tri_to_pents_items» .entry)) (now («tri_to_pents_starts» .entry)) (now («edge_to_tris_items» .entry)) (now («edge_to_tris_starts» .entry))
         (now («edge_to_pents_items» .entry)) (now («edge_to_pents_starts» .entry))) ⌝ }
-    ensures { λ r. ⌜ (r ≡ true → Noted (pentsIn counts (now (pents .entry))) (now («pent_edges» .exit)) (now («pent_tris» .exit))) ⌝ }
+    ensures { λ r. ⌜ Noting (pentsIn counts (now (pents .entry))) r (now («pent_edges» .entry)) (now («pent_tris» .entry)) (now («pent_edges» .exit)) (now («pent_tris» .exit)) ⌝ }
 {
     if !has_pents(counts, pents) {
         return false;

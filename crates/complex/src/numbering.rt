@@ -4,7 +4,7 @@ use lists::meet_rows;
 ghost use mathlib.Core.Path.{_≡_};
 ghost use mathlib.Core.Bool.{true};
 ghost use mathlib.Core.List.{[], _∷_, _++_, map};
-ghost use Prim.Native.Nat.{_+_, _/_, _≤_};
+ghost use Prim.Native.Nat.{_+_, _*_, _/_, _≤_};
 ghost use lib.ListN.{length, getD, take, drop};
 ghost use Rattle.lists.specs.Lists.{upto};
 ghost use Rattle.lists.specs.Rows.{rows, over};
@@ -152,7 +152,7 @@ pub fn number_faces(
 }
 
 // Whether `list` begins with the faces of all pentachorons, numbered by first meeting, and n_faces is their count. `next`
-// links the chains of the search; `numbers` gets the number of each face as it is met.
+// links the chains of the search; `numbers` gets the number of each face as it is met, and is kept after these.
 pub fn has_faces(
     face: Face,
     pents: &[u32],
@@ -163,7 +163,8 @@ pub fn has_faces(
 ) -> bool
     requires { ⌜ Searched face (length (now pents) / 5) (length (now pents)) (length (now next)) (length (now numbers)) ⌝ }
     ensures { λ r. ⌜ r ≡ hasFaces face (rows 5 (length (now (pents .entry)) / 5) (now (pents .entry))) «n_faces» (now (list .entry)) ⌝ }
-    ensures { λ r. ⌜ (r ≡ true → now (numbers .exit) ≡ over (numbersOf face (rows 5 (length (now (pents .entry)) / 5) (now (pents .entry)))) (now (numbers .entry))) ⌝ }
+    ensures { λ r. ⌜ (r ≡ true → now (numbers .exit) ≡ over (numbersOf face (rows 5 (length (now (pents .entry)) / 5) (now (pents .entry)))) (now (numbers .entry)))
+        × (drop (countOf face * (length (now (pents .entry)) / 5)) (now (numbers .exit)) ≡ drop (countOf face * (length (now (pents .entry)) / 5)) (now (numbers .entry))) ⌝ }
 {
     let pentachorons = pents.len() / 5;
     let w = face.width();

@@ -3,8 +3,11 @@
 use crate::counts_of;
 use lorentzian_regge::local_deficit_angles;
 use lorentzian_regge::local_lorentzian_regge_action_grad;
+use lorentzian_regge::local_lorentzian_regge_hessian;
 ghost use lib.ListN.{length};
+ghost use Prim.Native.Nat.{_*_};
 ghost use Rattle.complex.specs.Builder.{lists};
+ghost use Rattle.hessian.specs.Hessian.{localHessian};
 ghost use Rattle.hinges.specs.Local.{localGradient};
 ghost use Rattle.exports.specs.Hinges.{facesLent};
 ghost use Rattle.exports.specs.Local.{LocalTable, LocalFill};
@@ -98,6 +101,53 @@ pub extern "C" fn cjapthumi_local_lorentzian_regge_action_grad<'a>(
         sq_lengths,
         free_edges,
         grad,
+    );
+    answer.number()
+}
+
+#[no_mangle]
+pub extern "C" fn cjapthumi_local_lorentzian_regge_hessian<'a>(
+    counts: &'a [usize; 5],
+    pents: &'a [u32],
+    edges: &'a [u32],
+    triangles: &'a [u32],
+    tets: &'a [u32],
+    tri_to_pents_items: &'a [u32],
+    tri_to_pents_starts: &'a [u32],
+    edge_to_tris_items: &'a [u32],
+    edge_to_tris_starts: &'a [u32],
+    edge_to_pents_items: &'a [u32],
+    edge_to_pents_starts: &'a [u32],
+    sq_lengths: &'a [f64],
+    free_edges: &'a [u32],
+    fd_eps: f64,
+    hessian: &mut [f64],
+) -> u32
+    ensures { λ r. ⌜ LocalFill (now (counts .entry)) (lists (now (pents .entry)) (now (edges .entry)) (now (triangles .entry)) (now (tets .entry))
+        (now («tri_to_pents_items» .entry)) (now («tri_to_pents_starts» .entry)) (now («edge_to_tris_items» .entry)) (now («edge_to_tris_starts» .entry))
+        (now («edge_to_pents_items» .entry)) (now («edge_to_pents_starts» .entry)))
+        (now («sq_lengths» .entry)) (now («free_edges» .entry)) (length (now («free_edges» .entry)) * length (now («free_edges» .entry)))
+        (localHessian (facesLent (now (counts .entry)) (lists (now (pents .entry)) (now (edges .entry)) (now (triangles .entry)) (now (tets .entry))
+        (now («tri_to_pents_items» .entry)) (now («tri_to_pents_starts» .entry)) (now («edge_to_tris_items» .entry)) (now («edge_to_tris_starts» .entry))
+        (now («edge_to_pents_items» .entry)) (now («edge_to_pents_starts» .entry)))) (now («sq_lengths» .entry)) (now («free_edges» .entry)) «fd_eps»)
+        (now (hessian .entry)) r (now (hessian .exit)) ⌝ }
+{
+    let answer = local_lorentzian_regge_hessian(
+        counts_of(*counts),
+        pents,
+        edges,
+        triangles,
+        tets,
+        tri_to_pents_items,
+        tri_to_pents_starts,
+        edge_to_tris_items,
+        edge_to_tris_starts,
+        edge_to_pents_items,
+        edge_to_pents_starts,
+        sq_lengths,
+        free_edges,
+        fd_eps,
+        hessian,
     );
     answer.number()
 }

@@ -1,26 +1,26 @@
 -- Free edges: the triangles on them, their hinges, and that their entries of the gradient, summed over those triangles alone, are the entries of the gradient of all. Assumes nothing.
 use Prim.Native.Nat.{ℕ, zero, suc, _+_, _≤_, _<_}
-use mathlib.Core.Path.{_≡_, refl, sym, ap, _∙_, subst}
-use mathlib.Core.Logic.{⊎-elim}
 use mathlib.Core.Bool.{Bool, true, false, cond}
-use mathlib.Core.List.{List, [], _∷_, _++_, map, map-id, foldl, List·Memᴰ, List·Memᴰ·head, List·Memᴰ·tail, List·Memᴰ·cases-cons, List·Memᴰ·not-nil, Memᴰ·of-map}
+use mathlib.Core.List.{List, [], _∷_, map, map-id, foldl, List·Memᴰ, List·Memᴰ·cases-cons, List·Memᴰ·not-nil, Memᴰ·of-map}
+use mathlib.Core.Logic.{⊎-elim}
+use mathlib.Core.Path.{_≡_, refl, sym, ap, _∙_, subst}
 use native.Mathlib.Nat.{le-of-suc-le-suc, not-suc-le-zero, zero-add}
 use native.Mathlib.Omega.{arith}
 use lib.Dec.{eqb}
+use lib.Ieee.{Float, nan, lt}
 use lib.ListN.{length, getD, replicate, length-replicate, getD-replicate, length-map}
 use lib.Seq.{ext-getD}
-use lib.Ieee.{Float, nan, lt}
 use borrow.Author.Tests.{eq-eqb, ne-eqb}
 use Rattle.floats.specs.Ops as Ops
 use Rattle.floats.specs.Ops.{_⊕_}
-use Rattle.lists.specs.Lists.{keep, gather, upto, combos, among, Rising}
+use Rattle.lists.specs.Lists.{gather, upto, combos, among, Rising}
 use Rattle.lists.specs.Keys.{find}
 use Rattle.lists.specs.Rows.{Wide}
 use Rattle.lists.specs.Groups.{places, Below}
 use Rattle.lists.specs.Loops.{scatter, hits}
 use Rattle.lists.proofs.Tests.{Says, pass, fail, says-by, said, denied, passes, eqb-says}
 use Rattle.lists.proofs.Elements.{getD-mem, mem-getD, getD-map, keep-mem, mem-keep, keep-rising, gather-mem, mem-gather, gather-one, map-same, upto-mem, mem-upto, upto-rising, among-says}
-use Rattle.lists.proofs.Loops.{length-scatter, scatter-at, hits-append, hits-none}
+use Rattle.lists.proofs.Loops.{length-scatter, scatter-at, hits-none, hits-skip, hits-same}
 use Rattle.complex.specs.Complex.{edges, triangles, holding, triToPents}
 use Rattle.complex.specs.Incidence.{Simplices}
 use Rattle.complex.proofs.FaceNumbers.{three-edges}
@@ -36,26 +36,6 @@ use Rattle.hinges.proofs.TableSteps.{length-hinges}
 use Rattle.hinges.proofs.SharedTriangle.{face-lies}
 
 -- ---- events at a place
-
-module _ {A X : Type 0} where
-  -- elements without events at a place may be left out
-  pub hits-skip : (j : ℕ) (f : A → List (ℕ × X)) (q : A → Bool) (xs : List A) → ((x : A) → List·Memᴰ x xs → q x ≡ false → hits j (f x) ≡ []) → hits j (gather f (keep q xs)) ≡ hits j (gather f xs)
-  unfolding hits gather keep
-  hits-skip j f q [] none = refl
-  hits-skip j f q (x ∷ xs) none = go (q x) (none x (List·Memᴰ·head refl)) (hits-skip j f q xs (λ y m. none y (List·Memᴰ·tail m))) ∙ sym (hits-append j (f x) (gather f xs))
-    where
-      go : (b : Bool) → (b ≡ false → hits j (f x) ≡ []) → hits j (gather f (keep q xs)) ≡ hits j (gather f xs) → hits j (gather f (cond b (x ∷ keep q xs) (keep q xs))) ≡ hits j (f x) ++ hits j (gather f xs)
-      go true e r = hits-append j (f x) (gather f (keep q xs)) ∙ ap (λ (l : List X). hits j (f x) ++ l) r
-      go false e r = r ∙ ap (λ (l : List X). l ++ hits j (gather f xs)) (sym (e refl))
-
-  -- events that agree for each element, at one place and at another
-  pub hits-same : (j k : ℕ) (f g : A → List (ℕ × X)) (xs : List A) → ((x : A) → List·Memᴰ x xs → hits j (f x) ≡ hits k (g x)) → hits j (gather f xs) ≡ hits k (gather g xs)
-  unfolding hits gather
-  hits-same j k f g [] same = refl
-  hits-same j k f g (x ∷ xs) same =
-      hits-append j (f x) (gather f xs)
-      ∙ (λ i. same x (List·Memᴰ·head refl) i ++ hits-same j k f g xs (λ y m. same y (List·Memᴰ·tail m)) i)
-      ∙ sym (hits-append k (g x) (gather g xs))
 
 -- a list of sums begins at zero: what it has at a place after events
 pub sum-at : (es : List (ℕ × Float)) (m e : ℕ) → e < m → getD (scatter nan _⊕_ es (replicate m Ops.zero)) e nan ≡ foldl _⊕_ Ops.zero (hits e es)

@@ -1,21 +1,20 @@
 -- Marks: which numbers a list of marks has, and loops over them. Assumes nothing.
 use Prim.Native.Nat.{ℕ, zero, suc, _+_, _-_, _≤_, _<_}
 use mathlib.Core.Bool.{Bool, true, false, true≢false, cond, _||_}
-use mathlib.Core.List.{List, [], _∷_, _++_, append-assoc, append-nil, foldl, foldl-append, List·Memᴰ, List·Memᴰ·head, List·Memᴰ·tail, List·Memᴰ·cases-cons, List·Memᴰ·not-nil, List·Memᴰ·append-cases, Memᴰ·append-right}
+use mathlib.Core.List.{List, [], _∷_, _++_, append-nil, foldl, foldl-append, List·Memᴰ, List·Memᴰ·head, List·Memᴰ·tail, List·Memᴰ·cases-cons, List·Memᴰ·not-nil, List·Memᴰ·append-cases, Memᴰ·append-right}
 use mathlib.Core.Logic.{⊎-elim}
 use mathlib.Core.Path.{_≡_, refl, sym, ap, _∙_, subst}
 use native.Mathlib.Nat.{add-zero}
 use native.Mathlib.Numerals.{add-one}
 use native.Mathlib.Omega.{arith}
 use lib.Dec.{eqb}
-use lib.ListN.{length, getD, set, take, drop, replicate, length-set, length-replicate, getD-replicate, length-append}
-use lib.Seq.{getD-set-same, getD-set-other, lt-length-set, take-suc, set-split}
+use lib.ListN.{length, getD, set, take, replicate, length-set, length-replicate, getD-replicate, length-append}
+use lib.Seq.{getD-set-same, getD-set-other, lt-length-set, take-suc}
 use Rattle.lists.specs.Lists.{keep, gather, upto, among, Once}
 use Rattle.lists.specs.Groups.{Below}
 use Rattle.lists.specs.Loops.{scatter}
 use Rattle.lists.proofs.Tests.{Says, pass, fail, passes, denied, eqb-says}
-use Rattle.lists.proofs.Elements.{getD-mem, keep-same, mem-upto, gather-snoc, among-says}
-use Rattle.lists.proofs.Rows.{over-turn}
+use Rattle.lists.proofs.Elements.{getD-mem, keep-same, keep-snoc, mem-upto, gather-snoc, among-says}
 use Rattle.lists.proofs.Loops.{scatter-append}
 use Rattle.complex.specs.Complex.{holding}
 use Rattle.complex.specs.Builder.{repeats}
@@ -23,6 +22,12 @@ use Rattle.complex.proofs.Lying.{mem-holding}
 use Rattle.complex.proofs.Offences.{once-of}
 use Rattle.complex.proofs.Laws.{no-repeat}
 use Rattle.hinges.specs.Local.{met, listed, marked, markedBelow}
+
+-- ---- scratch
+
+-- room for a number in a list of scratch
+pub scratch-room : {A : Type 0} (m : ℕ) (large : m ≡ 81920) (x : A) (xs : List A) → xs ≡ replicate m x → (n : ℕ) → n ≤ 81920 → n ≤ length xs
+scratch-room m large x xs e n h = omega (arith, ap length e, length-replicate m x)
 
 -- ---- marks
 
@@ -87,18 +92,6 @@ met-next rs es free k h =
 pub holding-below : (rs : List (List ℕ)) (s own : List ℕ) → own ≡ holding rs s → (n : ℕ) → length rs ≤ n → Below own n
 holding-below rs s own e n h k l = let m = mem-holding rs s (subst (λ (x : List ℕ). List·Memᴰ (getD own k 0) x) e (getD-mem own k 0 l)) in omega (arith, m .0)
 
-keep-snoc : {A : Type 0} (q : A → Bool) (xs : List A) (y : A) → keep q (xs ++ y ∷ []) ≡ keep q xs ++ cond (q y) (y ∷ []) []
-unfolding keep
-keep-snoc q [] y = go (q y)
-  where
-    go : (b : Bool) → cond b (y ∷ []) [] ≡ [] ++ cond b (y ∷ []) []
-    go b = refl
-keep-snoc {A} q (x ∷ xs) y = go (q x) (keep-snoc q xs y)
-  where
-    go : (b : Bool) → keep q (xs ++ y ∷ []) ≡ keep q xs ++ cond (q y) (y ∷ []) [] → cond b (x ∷ keep q (xs ++ y ∷ [])) (keep q (xs ++ y ∷ [])) ≡ cond b (x ∷ keep q xs) (keep q xs) ++ cond (q y) (y ∷ []) []
-    go true r = ap (λ (l : List A). x ∷ l) r
-    go false r = r
-
 module _ (marks : List ℕ) (t : ℕ) where
   step : (b : Bool) → eqb (getD marks t 0) 1 ≡ b → markedBelow (t + 1) marks ≡ markedBelow t marks ++ cond b (t ∷ []) []
   unfolding markedBelow upto
@@ -162,22 +155,7 @@ module _ {S X : Type 0} (d : S) (f : S → X → S) (event : ℕ → List (ℕ �
   pub scatter-past : eqb (getD marks t 0) 1 ≡ false → now ≡ scatter d f (gather event (markedBelow (t + 1) marks)) old
   scatter-past m = was ∙ ap (λ (l : List ℕ). scatter d f (gather event l) old) (sym (marked-past marks t m))
 
--- a turn that writes one number after others
-pub list-here : {A : Type 0} (front : List A) (a : A) (old out : List A) (n : ℕ) → length front ≡ n → n < length old → length out ≡ length old → out ≡ front ++ drop n old → set out n a ≡ front ++ a ∷ [] ++ drop (n + 1) old
-list-here {A} front a old out n l h k i =
-    over-turn front (a ∷ []) old out (set out n a) n (n + 1) l (omega arith) i
-    (set-split out n a (omega arith) ∙ sym (append-assoc (take n out) (a ∷ []) (drop (suc n) out)) ∙ ap (λ (j : ℕ). take n out ++ a ∷ [] ++ drop j out) (sym (add-one n)))
-
 -- ---- numbers that stand twice
-
-among-append : (v : ℕ) (xs ys : List ℕ) → among v (xs ++ ys) ≡ (among v xs || among v ys)
-unfolding among
-among-append v [] ys = refl
-among-append v (x ∷ xs) ys = go (eqb v x) (among-append v xs ys)
-  where
-    go : (b : Bool) → among v (xs ++ ys) ≡ (among v xs || among v ys) → (b || among v (xs ++ ys)) ≡ (b || among v xs || among v ys)
-    go true r = refl
-    go false r = r
 
 -- a number that stands among those before it
 pub stands-again : (ys zs : List ℕ) (e : ℕ) → among e ys ≡ true → repeats (ys ++ e ∷ zs) ≡ true

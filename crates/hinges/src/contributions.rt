@@ -13,7 +13,7 @@ ghost use Rattle.complex.specs.Incidence.{edgeList};
 ghost use Rattle.hinges.specs.Action.{factorOf, contributionOf, contributionsOf};
 
 // The sign of a squared area, over twice the area.
-fn factor_of(area_sq: f64, area: f64) -> f64
+pub fn factor_of(area_sq: f64, area: f64) -> f64
     ensures { λ r. ⌜ r ≡ factorOf «area_sq» area ⌝ }
 {
     let sign = if 0.0 <= area_sq { 1.0 } else { -1.0 };

@@ -1,6 +1,6 @@
 // What the Lorentzian Regge action is made of, by the numbers of triangles and pentachorons: the table of all hinges, the hinge of
-// one triangle, areas, and what a triangle adds to the gradient. Nothing is refused here: functions ask for what a built complex
-// with as many lengths as edges has (`Measured`). NaN and infinities are lawful lengths.
+// one triangle, areas, what a triangle adds to the gradient, and marks of what lies on free edges. Nothing is refused here: functions
+// ask for what a built complex with as many lengths as edges has (`Measured`). NaN and infinities are lawful lengths.
 mod area;
 mod contributions;
 mod dihedrals;
@@ -12,6 +12,8 @@ mod triangle;
 pub use area::abs_area;
 pub use area::tri_sq_lengths;
 pub use contributions::add_contributions;
+pub use contributions::factor_of;
+pub use dihedrals::pent_sq_lengths;
 pub use hinge::Hinge;
 pub use hinge::KindByte;
 pub use hinge::kind_in;

@@ -15,7 +15,7 @@ use Rattle.lists.specs.Rows.{flat, rows, over}
 use Rattle.lists.specs.Chains.{mix, hash, chainAt, Indexed, Ready, Met}
 use Rattle.lists.proofs.Tests.{lt-or-ge, eq-or-ne}
 use Rattle.lists.proofs.Keys.{find-le, find-none, find-new, meet-old, meet-new, meet-distinct, fold-numbers}
-use Rattle.lists.proofs.Rows.{length-rows, rows-snoc, rows-agree, flat-rows, over-of}
+use Rattle.lists.proofs.Rows.{length-rows, rows-snoc, rows-agree, flat-rows, over-of, drop-later}
 
 -- ---- the hash
 
@@ -333,6 +333,15 @@ module _ (w : ℕ) (e e₁ h₁ x₁ e₂ h₂ x₂ u u₁ u₂ : List ℕ) (n m
         numbered = numbers;
         indexed = q .indexed;
       }
+
+-- the places after the numbers of the rows that are met are kept
+pub met-kept : (w : ℕ) (e e′ h x u u′ : List ℕ) (n at : ℕ) (ts : List (List ℕ)) (r m : ℕ) → Met w e e′ h x u u′ n at ts r → at ≤ length u → at + length ts ≤ m → drop m u′ ≡ drop m u
+met-kept w e e′ h x u u′ n at ts r m p room l =
+    let numbers = map (λ s. find s (rows w r e′)) ts in
+    let ahead : length (take at u ++ numbers) ≡ at + length ts =
+    length-append (take at u) numbers ∙ omega (arith, length-take-le at u room, length-map ts (λ s. find s (rows w r e′))) in
+    drop-later u′ u (at + length ts) m l
+    (ap (drop (at + length ts)) (p .numbered) ∙ drop-at (take at u ++ numbers) (drop (at + length ts) u) (at + length ts) ahead)
 
 -- ---- from no rows on
 

@@ -310,6 +310,19 @@ keep-only {A} q (x ∷ xs) {a} m = go (q x) (keep-only q xs) m
     go true r n = ⊎-elim List·Memᴰ·head (λ k. List·Memᴰ·tail (r k)) (List·Memᴰ·cases-cons n)
     go false r n = List·Memᴰ·tail (r n)
 
+-- one element more, kept or not
+pub keep-snoc : {A : Type 0} (q : A → Bool) (xs : List A) (y : A) → keep q (xs ++ y ∷ []) ≡ keep q xs ++ cond (q y) (y ∷ []) []
+unfolding keep
+keep-snoc q [] y = go (q y)
+  where
+    go : (b : Bool) → cond b (y ∷ []) [] ≡ [] ++ cond b (y ∷ []) []
+    go b = refl
+keep-snoc {A} q (x ∷ xs) y = go (q x) (keep-snoc q xs y)
+  where
+    go : (b : Bool) → keep q (xs ++ y ∷ []) ≡ keep q xs ++ cond (q y) (y ∷ []) [] → cond b (x ∷ keep q (xs ++ y ∷ [])) (keep q (xs ++ y ∷ [])) ≡ cond b (x ∷ keep q xs) (keep q xs) ++ cond (q y) (y ∷ []) []
+    go true r = ap (λ (l : List A). x ∷ l) r
+    go false r = r
+
 pub keep-rising : (q : ℕ → Bool) (xs : List ℕ) → Rising xs → Rising (keep q xs)
 unfolding keep
 keep-rising q [] r = tt

@@ -12,3 +12,4 @@ pub mod Grouped
 pub mod GroupSteps
 pub mod Loops
 pub mod Folds
+pub mod Few

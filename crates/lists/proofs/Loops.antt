@@ -142,3 +142,25 @@ hits-has {X} j (a ∷ es) {x} m = go (eqb-says (a .0) j) (hits-has j es)
     go : {b : Bool} → Says (a .0 ≡ j) b → (List·Memᴰ (j, x) es → List·Memᴰ x (hits j es)) → List·Memᴰ x (cond b (a .1 ∷ hits j es) (hits j es))
     go (pass p) r = ⊎-elim (λ e. List·Memᴰ·head (ap (λ (c : ℕ × X). c .1) e)) (λ k. List·Memᴰ·tail (r k)) (List·Memᴰ·cases-cons m)
     go (fail f) r = ⊎-elim (λ e. absurd (f (sym (ap (λ (c : ℕ × X). c .0) e)))) r (List·Memᴰ·cases-cons m)
+
+-- ---- the events of several elements
+
+module _ {A X : Type 0} where
+  -- elements without events at a place may be left out
+  pub hits-skip : (j : ℕ) (f : A → List (ℕ × X)) (q : A → Bool) (xs : List A) → ((x : A) → List·Memᴰ x xs → q x ≡ false → hits j (f x) ≡ []) → hits j (gather f (keep q xs)) ≡ hits j (gather f xs)
+  unfolding hits gather keep
+  hits-skip j f q [] none = refl
+  hits-skip j f q (x ∷ xs) none = go (q x) (none x (List·Memᴰ·head refl)) (hits-skip j f q xs (λ y m. none y (List·Memᴰ·tail m))) ∙ sym (hits-append j (f x) (gather f xs))
+    where
+      go : (b : Bool) → (b ≡ false → hits j (f x) ≡ []) → hits j (gather f (keep q xs)) ≡ hits j (gather f xs) → hits j (gather f (cond b (x ∷ keep q xs) (keep q xs))) ≡ hits j (f x) ++ hits j (gather f xs)
+      go true e r = hits-append j (f x) (gather f (keep q xs)) ∙ ap (λ (l : List X). hits j (f x) ++ l) r
+      go false e r = r ∙ ap (λ (l : List X). l ++ hits j (gather f xs)) (sym (e refl))
+
+  -- events that agree for each element, at one place and at another
+  pub hits-same : (j k : ℕ) (f g : A → List (ℕ × X)) (xs : List A) → ((x : A) → List·Memᴰ x xs → hits j (f x) ≡ hits k (g x)) → hits j (gather f xs) ≡ hits k (gather g xs)
+  unfolding hits gather
+  hits-same j k f g [] same = refl
+  hits-same j k f g (x ∷ xs) same =
+      hits-append j (f x) (gather f xs)
+      ∙ (λ i. same x (List·Memᴰ·head refl) i ++ hits-same j k f g xs (λ y m. same y (List·Memᴰ·tail m)) i)
+      ∙ sym (hits-append k (g x) (gather g xs))

@@ -6,7 +6,7 @@ use mathlib.Core.List.{List, [], _∷_, _++_, foldl, foldl-append, append-assoc}
 use native.Mathlib.Numerals.{add-one}
 use native.Mathlib.Omega.{arith}
 use lib.ListN.{length, getD, take, drop, set, length-append, take-append-drop}
-use lib.Seq.{drop-drop, getD-at, take-at}
+use lib.Seq.{drop-drop, drop-set-lt, getD-at, take-at}
 use Rattle.lists.specs.Keys.{eqs, find, meet}
 use Rattle.lists.specs.Rows.{rows}
 use Rattle.lists.specs.Chains.{hash, Met, Comparable, Stand, Compared}
@@ -46,6 +46,7 @@ module _ (w : ℕ) (e h x u : List ℕ) (n m at k : ℕ) (s : List ℕ) (ok : Co
       record {
         yes = λ t. (met-old w e h x u n at k s (ok .indexed) (omega (arith, ok .numbers)) is l, ok .known);
         no = λ f. absurd (not-both refl f);
+        kept = drop-set-lt (at + 1) u at k (omega arith);
       }
 
   module _ (ge : n ≤ k) where
@@ -60,7 +61,7 @@ module _ (w : ℕ) (e h x u : List ℕ) (n m at k : ℕ) (s : List ℕ) (ok : Co
 
     -- it is a row too many
     pub compared-full : n ≡ m → Compared w e h x u (set u at k) n m at (s ∷ []) (record { same = false; rows = n })
-    compared-full z = record { yes = λ t. absurd (not-both t refl); no = λ f st. omega (arith, count, st .few) }
+    compared-full z = record { yes = λ t. absurd (not-both t refl); no = λ f st. omega (arith, count, st .few); kept = drop-set-lt (at + 1) u at k (omega arith) }
 
     module _ (size : length s ≡ w) (other : n ≡ m → ⊥) where
       row : List ℕ
@@ -79,6 +80,7 @@ module _ (w : ℕ) (e h x u : List ℕ) (n m at k : ℕ) (s : List ℕ) (ok : Co
                 let here : row ≡ s =
                 sym (getD-at (rows w n e) row [] [] n (length-rows w n e)) ∙ ap (λ (l : List (List ℕ)). getD l n []) both ∙ getD-at (rows w n e) s [] [] n (length-rows w n e) in
                 denied (eqs-says s (take (length s) (drop (w * n) e))) f (rw size (sym here));
+            kept = drop-set-lt (at + 1) u at k (omega arith);
           }
 
       -- row n of the list is it
@@ -95,6 +97,7 @@ module _ (w : ℕ) (e h x u : List ℕ) (n m at k : ℕ) (s : List ℕ) (ok : Co
           record {
             yes = λ z. (met-new w e h x u n at k s (ok .indexed) (omega (arith, ok .numbers)) is e size stored ge (omega (arith, ok .room)) (omega (arith, ok .links)), omega arith);
             no = λ f. absurd (not-both refl f);
+            kept = drop-set-lt (at + 1) u at k (omega arith);
           }
         where
           swap : drop (length s) (drop (w * n) e) ≡ drop (w * n + length s) e

@@ -3,11 +3,11 @@ use mathlib.Core.Path.{_≡_, refl, sym, ap, _∙_}
 use mathlib.Core.Bool.{true}
 use mathlib.Core.List.{List, [], _∷_, _++_, map, append-assoc, append-nil, List·Memᴰ·head, List·Memᴰ·tail, List·Memᴰ·cases-cons, List·Memᴰ·not-nil, map-append, List·Memᴰ}
 use mathlib.Core.Logic.{⊎-elim}
-use Prim.Native.Nat.{ℕ, zero, suc, _+_, _*_, _-_, _≤_, _<_}
+use Prim.Native.Nat.{ℕ, zero, suc, _+_, _*_, _-_, _≤_, _<_, min}
 use native.Mathlib.Nat.{le-of-suc-le-suc, not-suc-le-zero, add-zero, mul-suc, mul-zero, mul-le-mul-left}
 use native.Mathlib.Omega.{arith}
 use native.Mathlib.Numerals.{add-one}
-use lib.ListN.{length, getD, take, drop, set, length-append, length-drop, length-map, take-append-drop}
+use lib.ListN.{length, getD, take, drop, set, length-append, length-take, length-drop, length-map, take-append-drop}
 use lib.Seq.{drop-drop, getD-take, getD-drop, getD-append-add, set-split, take-take, take-suc, take-add, take-at, drop-at, length-take-le, take-all, take-length, slice, take-append-add, take-append-seam, drop-append-seam}
 use Rattle.lists.specs.Lists.{gather, upto}
 use Rattle.lists.specs.Rows.{flat, rows, Wide, startsFrom, starts, over, begins}
@@ -199,15 +199,18 @@ pub over-of : {A : Type 0} (new old xs : List A) (n : ℕ) → take n xs ≡ new
 unfolding over
 over-of new old xs n a l b = sym (take-append-drop n xs) ∙ rw (l, a, b) refl
 
+-- lists that agree from place n on agree from every later place on
+pub drop-later : {A : Type 0} (xs ys : List A) (n m : ℕ) → n ≤ m → drop n xs ≡ drop n ys → drop m xs ≡ drop m ys
+drop-later {A} xs ys n m h e =
+    let z : n + (m - n) ≡ m = omega arith in
+    ap (λ (k : ℕ). drop k xs) (sym z) ∙ sym (drop-drop (m - n) n xs) ∙ ap (drop (m - n)) e ∙ drop-drop (m - n) n ys ∙ ap (λ (k : ℕ). drop k ys) z
+
 -- a turn of a loop that writes a list from its front: its places from n to m get a part
 pub over-turn : {A : Type 0} (front part old out out′ : List A) (n m : ℕ) → length front ≡ n → n ≤ m → out ≡ front ++ drop n old → out′ ≡ take n out ++ part ++ drop m out → out′ ≡ front ++ part ++ drop m old
 over-turn {A} front part old out out′ n m l h i e =
-    let z : n + (m - n) ≡ m = omega arith in
     let a : take n out ≡ front = ap (take n) i ∙ take-at front (drop n old) n l in
     let b : drop n out ≡ drop n old = ap (drop n) i ∙ drop-at front (drop n old) n l in
-    let d : drop m out ≡ drop m old =
-    ap (λ (k : ℕ). drop k out) (sym z) ∙ sym (drop-drop (m - n) n out) ∙ ap (drop (m - n)) b ∙ drop-drop (m - n) n old ∙ ap (λ (k : ℕ). drop k old) z in
-    e ∙ ap (λ (xs : List A). xs ++ part ++ drop m out) a ∙ ap (λ (xs : List A). front ++ part ++ xs) d
+    e ∙ ap (λ (xs : List A). xs ++ part ++ drop m out) a ∙ ap (λ (xs : List A). front ++ part ++ xs) (drop-later out old n m h b)
 
 -- a turn that writes one place, by a rule
 pub map-turn : {A : Type 0} (f : ℕ → A) (old out : List A) (k : ℕ) → k < length old → length out ≡ length old → out ≡ map f (upto k) ++ drop k old → set out k (f k) ≡ map f (upto (suc k)) ++ drop (suc k) old
@@ -220,6 +223,30 @@ map-turn {A} f old out k h l i =
 pub map-done : {A : Type 0} (f : ℕ → A) (old out : List A) (n : ℕ) → out ≡ map f (upto n) ++ drop n old → out ≡ over (map f (upto n)) old
 unfolding over
 map-done f old out n e = e ∙ rw (length-map (upto n) f ∙ length-upto n) refl
+
+-- a turn that writes one place after a front
+pub front-turn : {A : Type 0} (front : List A) (a : A) (old out : List A) (n : ℕ) → length front ≡ n → n < length old → length out ≡ length old → out ≡ front ++ drop n old → set out n a ≡ front ++ a ∷ [] ++ drop (n + 1) old
+front-turn {A} front a old out n l h k i =
+    over-turn front (a ∷ []) old out (set out n a) n (n + 1) l (omega arith) i
+    (set-split out n a (omega arith) ∙ sym (append-assoc (take n out) (a ∷ []) (drop (suc n) out)) ∙ ap (λ (j : ℕ). take n out ++ a ∷ [] ++ drop j out) (sym (add-one n)))
+
+-- a turn that writes what g makes of the next number
+pub written-next : {A : Type 0} (g : ℕ → A) (xs : List ℕ) (k : ℕ) (old out : List A) → k < length xs → k < length old → length out ≡ length old → out ≡ map g (take k xs) ++ drop k old
+    → set out k (g (getD xs k 0)) ≡ map g (take (k + 1) xs) ++ drop (k + 1) old
+written-next {A} g xs k old out h m l e =
+    front-turn (map g (take k xs)) (g (getD xs k 0)) old out k (length-map (take k xs) g ∙ front) m l e
+    ∙ ap (λ (r : List A). r ++ drop (k + 1) old) (sym (ap (λ (n : ℕ). map g (take n xs)) (add-one k) ∙ ap (map g) (take-suc xs k 0 h) ∙ map-append g (take k xs) (getD xs k 0 ∷ [])))
+  where
+    front : length (take k xs) ≡ k
+    front = length-take k xs ∙ omega arith
+
+-- all of those that g makes
+pub written-all : {A : Type 0} (g : ℕ → A) (xs : List ℕ) (n : ℕ) (old out : List A) → n ≤ length xs → out ≡ map g (take n xs) ++ drop n old → out ≡ over (map g (take n xs)) old
+unfolding over
+written-all g xs n old out h e = e ∙ rw (length-map (take n xs) g ∙ length-take n xs ∙ front) refl
+  where
+    front : min n (length xs) ≡ n
+    front = omega arith
 
 -- the place after those that are written holds what it held
 pub read-next : {A : Type 0} (f : ℕ → A) (old : List A) (k : ℕ) (d : A) → getD (map f (upto k) ++ drop k old) k d ≡ getD old k d

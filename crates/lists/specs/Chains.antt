@@ -65,7 +65,8 @@ pub record Stand (w : ℕ) (e : List ℕ) (m : ℕ) (ks : List (List ℕ)) : Typ
   pub few : length ks ≤ m
   pub same : rows w (length ks) e ≡ ks
 
--- the rows ts are met in e as it is, n of whose m rows are known: they are met, with nothing written, or e has other rows. In that case the chains and numbers are left in some state
+-- the rows ts are met in e as it is, n of whose m rows are known: they are met, with nothing written, or e has other rows. In that case the chains, and the numbers before the end of those of ts, are left in some state
 pub record Compared (w : ℕ) (e h′ x′ u u′ : List ℕ) (n m at : ℕ) (ts : List (List ℕ)) (r : Match) : Type 0 where
   pub yes : r .same ≡ true → Met w e e h′ x′ u u′ n at ts (r .rows) × (r .rows ≤ m)
   pub no : r .same ≡ false → Stand w e m (foldl meet (rows w n e) ts) → ⊥
+  pub kept : drop (at + length ts) u′ ≡ drop (at + length ts) u

@@ -2,4 +2,5 @@
 pub mod OneSign
 pub mod BuiltCalls
 pub mod LocalSteps
+pub mod LocalSums
 pub mod Scratch

@@ -1,14 +1,12 @@
 -- The steps of calls with free edges: lists written from their front, checks that let a call pass, marks of what lies on free edges. Assumes nothing.
-use Prim.Native.Nat.{ℕ, _+_, _≤_, _<_, min}
+use Prim.Native.Nat.{ℕ, _≤_, _<_}
 use mathlib.Core.Bool.{Bool, true, false, not, cond}
-use mathlib.Core.List.{List, [], _∷_, _++_, map, map-append, List·Memᴰ}
+use mathlib.Core.List.{List, map, List·Memᴰ}
 use mathlib.Core.Path.{_≡_, refl, sym, ap, _∙_, subst}
-use native.Mathlib.Numerals.{add-one}
 use native.Mathlib.Omega.{arith}
 use lib.Dec.{eqb}
 use lib.Ieee.{Float, nan}
-use lib.ListN.{length, getD, set, take, drop, replicate, length-map, length-take, List·getD-append}
-use lib.Seq.{take-suc}
+use lib.ListN.{length, getD, drop, replicate, length-map, List·getD-append}
 use Rattle.refusals.specs.declared.Refusal.{Refusal}
 use Rattle.refusals.specs.declared.Refusal.the-variants.{LengthCount, EdgeTooLarge, RepeatedEdge}
 use Rattle.refusals.specs.declared.Outcome.{Outcome}
@@ -33,32 +31,12 @@ use Rattle.hinges.specs.Action.{contributions}
 use Rattle.hinges.specs.Local.{met, listed, localTriangles, localHinges, localGradient, marked, markedBelow}
 use Rattle.hinges.specs.Parts.{Measured}
 use Rattle.hinges.proofs.TableSteps.{length-hinges}
-use Rattle.hinges.proofs.Marking.{list-here, marked-listed}
+use Rattle.hinges.proofs.Marking.{marked-listed}
 use Rattle.hinges.proofs.LocalEntries.{entries-local}
 use Rattle.lorentzian_regge.specs.declared.local_deficits.LocalAnswer.{LocalAnswer}
 use Rattle.lorentzian_regge.specs.declared.local_deficits.LocalAnswer.the-variants as LocalAnswer
 use Rattle.lorentzian_regge.specs.Calls.{BuiltWith, lengthsCheckOf, freeCheckOf, LocallyTabled}
 use Rattle.lorentzian_regge.proofs.BuiltCalls.{built-measured, most-edges, lengths-passed, done-not-refused}
-
--- ---- lists written from their front
-
--- one element more of those that g makes of numbers
-pub written-next : {A : Type 0} (g : ℕ → A) (xs : List ℕ) (k : ℕ) (old out : List A) → k < length xs → k < length old → length out ≡ length old → out ≡ map g (take k xs) ++ drop k old
-    → set out k (g (getD xs k 0)) ≡ map g (take (k + 1) xs) ++ drop (k + 1) old
-written-next {A} g xs k old out h m l e =
-    list-here (map g (take k xs)) (g (getD xs k 0)) old out k (length-map (take k xs) g ∙ front) m l e
-    ∙ ap (λ (r : List A). r ++ drop (k + 1) old) (sym (ap (λ (n : ℕ). map g (take n xs)) (add-one k) ∙ ap (map g) (take-suc xs k 0 h) ∙ map-append g (take k xs) (getD xs k 0 ∷ [])))
-  where
-    front : length (take k xs) ≡ k
-    front = length-take k xs ∙ omega arith
-
--- all of them
-pub written-all : {A : Type 0} (g : ℕ → A) (xs : List ℕ) (n : ℕ) (old out : List A) → n ≤ length xs → out ≡ map g (take n xs) ++ drop n old → out ≡ over (map g (take n xs)) old
-unfolding over
-written-all g xs n old out h e = e ∙ rw (length-map (take n xs) g ∙ length-take n xs ∙ front) refl
-  where
-    front : min n (length xs) ≡ n
-    front = omega arith
 
 -- ---- the table
 

@@ -1,14 +1,14 @@
 -- A length has one sign, and the counts grow by it. Assumes nothing.
 use Prim.Native.Nat.{ℕ, _+_, _*_, _≤_, _<_}
-use mathlib.Core.Path.{_≡_, refl}
 use mathlib.Core.Bool.{Bool, true, false, cond}
 use mathlib.Core.List.{List, [], _∷_, _++_}
+use mathlib.Core.Path.{_≡_, refl}
 use native.Mathlib.Numerals.{add-one}
 use native.Mathlib.Omega.{arith}
+use lib.Ieee.{Float, nan, inf, fin, lt, eq, up, down, ofBits}
 use lib.IntN.{pos}
 use lib.ListN.{length, getD, take}
 use lib.Seq.{take-suc, length-take-le}
-use lib.Ieee.{Float, nan, inf, fin, lt, eq, up, down, ofBits}
 use borrow.Author.Tests.{ltb-true, ne-eqb}
 use Rattle.lists.specs.Lists.{keep}
 use Rattle.lorentzian_regge.specs.LengthSigns.{isTimelike, isNull, isSpacelike, signsOf}

@@ -1,12 +1,12 @@
 -- Deficits in a list of scratch: its front is read, and the gradient's list begins with the entries. Assumes nothing.
-use Prim.Native.Nat.{ℕ, _≤_, _<_}
-use mathlib.Core.Path.{_≡_, refl, sym, ap, _∙_, subst}
-use mathlib.Core.Logic.{⊎-elim}
+use Prim.Native.Nat.{ℕ, _<_}
 use mathlib.Core.Bool.{Bool, true, false, cond}
 use mathlib.Core.List.{List, [], _++_, List·Memᴰ, List·Memᴰ·cases-cons, List·Memᴰ·not-nil}
+use mathlib.Core.Logic.{⊎-elim}
+use mathlib.Core.Path.{_≡_, refl, sym, ap, _∙_, subst}
 use native.Mathlib.Omega.{arith}
-use lib.ListN.{length, getD, drop, replicate, length-replicate, length-map, List·getD-append}
 use lib.Ieee.{Float, nan, lt}
+use lib.ListN.{length, getD, drop, replicate, length-replicate, length-map, List·getD-append}
 use Rattle.floats.specs.Ops.{_⊕_, _⊗_, zero}
 use Rattle.lists.specs.Lists.{gather, upto, combos}
 use Rattle.lists.specs.Keys.{find}
@@ -25,10 +25,6 @@ use Rattle.hinges.specs.Action.{edgesAt, triLengths, absArea, areaLimit, action
 use Rattle.hinges.specs.Parts.{Measured}
 use Rattle.hinges.proofs.TableSteps.{length-hinges}
 use Rattle.hinges.proofs.TriangleSteps.{edges-below}
-
--- room for a number in a list of scratch
-pub scratch-room : {A : Type 0} (m : ℕ) (large : m ≡ 81920) (x : A) (xs : List A) → xs ≡ replicate m x → (n : ℕ) → n ≤ 81920 → n ≤ length xs
-scratch-room m large x xs e n h = omega (arith, ap length e, length-replicate m x)
 
 -- ---- the front of a list
 

@@ -1,12 +1,13 @@
 // The Lorentzian Regge action of a complex and what it is made of (lorentzian_regge.rs): the deficits of its hinges, its action, the
-// action's gradient, and the signs of squared lengths. A function that ends in `_built` takes a built complex with its incidence
-// lists and does not check it again. NaN and infinities are lawful lengths.
+// action's gradient, the same and the Hessian at free edges, and the signs of squared lengths. A function that ends in `_built` takes
+// a built complex with its incidence lists and does not check it again. NaN and infinities are lawful lengths.
 mod action;
 mod checks;
 mod deficits;
 mod gradient;
 mod local_deficits;
 mod local_gradient;
+mod local_hessian;
 mod signs;
 
 pub use action::ActionAnswer;
@@ -27,5 +28,7 @@ pub use local_deficits::local_deficit_angles;
 pub use local_deficits::local_deficit_angles_built;
 pub use local_gradient::local_lorentzian_regge_action_grad;
 pub use local_gradient::local_lorentzian_regge_action_grad_built;
+pub use local_hessian::local_lorentzian_regge_hessian;
+pub use local_hessian::local_lorentzian_regge_hessian_built;
 pub use signs::LengthSigns;
 pub use signs::length_signs;

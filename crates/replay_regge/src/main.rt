@@ -1,13 +1,16 @@
 // Replays stored calls over hinges. The numbers of a line are 16 hexadecimal digits each: the vertex count; how many
 // pentachorons follow, at most 8, and how many lengths, at most 80; the lengths of the outputs for deficits, kinds and
-// gradient, at most 100; the number of a triangle; a change; the pentachorons, 12 bits for each of five vertices; the
-// squared lengths as bits. The complex is built and then changed: 16 bits for one of its ten lists, 10 for the counts, 11
-// for nothing; 16 bits for the place, 32 for the number that is put there. For a line it prints what each function
-// answers, 0 or the refusal's number first: all places of the outputs of `lorentzian_deficit_angles`, the triangle's hinge,
-// the action, all places of the gradient; then the signs of the lengths. A double is its bits or nan, a kind S, T or, where
-// a byte is none, `-`. Before a call place i of an output has the bits 50000 + i, or no kind; a refused hinge is printed
-// as T with the bits 50000, a refused action as those. oracle/hinges made stdin and stdout from the Rust's answers and the table
-// of refusals.
+// gradient, at most 100; the number of a triangle; a change; of 8 bits each, from the lowest, how many free edges follow, at
+// most 12, and the lengths of the outputs for their triangles, deficits, kinds, gradient and Hessian, at most 100; the step
+// as bits; the pentachorons, 12 bits for each of five vertices; the squared lengths as bits; the free edges. The complex is
+// built and then changed: 16 bits for one of its ten lists, 10 for the counts, 11 for nothing; 16 bits for the place, 32 for
+// the number that is put there. For a line it prints what each function answers, 0 or the refusal's number first: all places
+// of the outputs of `lorentzian_deficit_angles`, the triangle's hinge, the action, all places of the gradient; then the signs
+// of the lengths; then for the free edges the count and all places of the outputs of `local_deficit_angles`, and all places of
+// the gradient and of the Hessian. A double is its bits or nan, a kind S, T or, where a byte is none, `-`. Before a call
+// place i of an output has the bits 50000 + i, is 50000 + i, or no kind; a refused hinge is printed as T with the bits 50000,
+// a refused action as those, a refused count as 50000. oracle/hinges made stdin and stdout from the Rust's answers and the
+// table of refusals.
 use complex::Built;
 use complex::Counts;
 use complex::TriangleNumber;
@@ -36,14 +39,14 @@ fn within(n: usize, most: usize) -> usize
 
 // The i-th number of a line.
 fn number_at(line: &[u8], i: usize) -> u64
-    requires { ⌜ i < 96 ⌝ }
+    requires { ⌜ i < 110 ⌝ }
 {
     replay::number(line, 17 * i)
 }
 
 // The i-th number of a line as a size.
 fn size_at(line: &[u8], i: usize) -> usize
-    requires { ⌜ i < 96 ⌝ }
+    requires { ⌜ i < 110 ⌝ }
 {
     number_at(line, i) as usize
 }
@@ -75,6 +78,26 @@ fn triangle_of(line: &[u8]) -> TriangleNumber {
     TriangleNumber((number_at(line, 6) % 0x1_0000_0000) as u32)
 }
 
+// How many free edges a line has.
+fn frees_of(line: &[u8]) -> usize
+    ensures { λ r. ⌜ r ≤ 12 ⌝ }
+{
+    within(size_at(line, 8) % 256, 12)
+}
+
+// The length of an output for the free edges of a line, which has its 8 bits from `scale` on.
+fn local_room_of(line: &[u8], scale: u64) -> usize
+    requires { ⌜ 0 < scale ⌝ }
+    ensures { λ r. ⌜ r ≤ 100 ⌝ }
+{
+    within((number_at(line, 8) / scale % 256) as usize, 100)
+}
+
+// The step of a line.
+fn step_of(line: &[u8]) -> f64 {
+    floats::of_bits(number_at(line, 9))
+}
+
 // The last of a number's vertices, of 12 bits each.
 fn vertex(packed: u64) -> u32 {
     (packed % 4096) as u32
@@ -95,7 +118,7 @@ fn put_pent(given: &mut [u32; 40], at: usize, packed: u64)
 fn given_of(line: &[u8]) -> [u32; 40] {
     let mut given = [0; 40];
     for i in 0..pents_of(line) {
-        put_pent(&mut given, 5 * i, number_at(line, 8 + i));
+        put_pent(&mut given, 5 * i, number_at(line, 10 + i));
     }
     given
 }
@@ -103,11 +126,21 @@ fn given_of(line: &[u8]) -> [u32; 40] {
 // The squared lengths of a line.
 fn sq_lengths_of(line: &[u8]) -> [f64; 80] {
     let mut sq_lengths = [0.0; 80];
-    let start = 8 + pents_of(line);
+    let start = 10 + pents_of(line);
     for i in 0..lengths_of(line) {
         sq_lengths[i] = floats::of_bits(number_at(line, start + i));
     }
     sq_lengths
+}
+
+// The free edges of a line.
+fn free_edges_of(line: &[u8]) -> [u32; 12] {
+    let mut free_edges = [0; 12];
+    let start = 10 + pents_of(line) + lengths_of(line);
+    for i in 0..frees_of(line) {
+        free_edges[i] = (number_at(line, start + i) % 0x1_0000_0000) as u32;
+    }
+    free_edges
 }
 
 // ---- lists
@@ -116,6 +149,13 @@ fn sq_lengths_of(line: &[u8]) -> [f64; 80] {
 fn fill(list: &mut [f64]) {
     for i in 0..list.len() {
         list[i] = floats::of_bits(50000 + (i % 10000) as u64);
+    }
+}
+
+// The pattern of numbers before a call.
+fn fill_numbers(list: &mut [u32]) {
+    for i in 0..list.len() {
+        list[i] = 50000 + (i % 10000) as u32;
     }
 }
 
@@ -180,6 +220,14 @@ fn print_byte(byte: u8) {
 fn print_doubles(list: &[f64]) {
     for i in 0..list.len() {
         print_double(list[i]);
+    }
+    print_end();
+}
+
+// The rest of a line: numbers.
+fn print_numbers(list: &[u32]) {
+    for i in 0..list.len() {
+        print_number(list[i] as u64);
     }
     print_end();
 }
@@ -356,6 +404,213 @@ fn print_grad<'a>(
     print_doubles(grad);
 }
 
+// ---- calls over free edges
+
+// The triangles on free edges with their deficits and kinds.
+fn print_local_deficits<'a>(
+    counts: Counts,
+    pents: &'a [u32],
+    edges: &'a [u32],
+    triangles: &'a [u32],
+    tets: &'a [u32],
+    tri_to_pents_items: &'a [u32],
+    tri_to_pents_starts: &'a [u32],
+    edge_to_tris_items: &'a [u32],
+    edge_to_tris_starts: &'a [u32],
+    edge_to_pents_items: &'a [u32],
+    edge_to_pents_starts: &'a [u32],
+    sq_lengths: &'a [f64],
+    free_edges: &'a [u32],
+    tris: &mut [u32],
+    deficits: &mut [f64],
+    kinds: &mut [u8],
+) {
+    fill_numbers(tris);
+    fill(deficits);
+    let answer = lorentzian_regge::local_deficit_angles(
+        counts,
+        pents,
+        edges,
+        triangles,
+        tets,
+        tri_to_pents_items,
+        tri_to_pents_starts,
+        edge_to_tris_items,
+        edge_to_tris_starts,
+        edge_to_pents_items,
+        edge_to_pents_starts,
+        sq_lengths,
+        free_edges,
+        tris,
+        deficits,
+        kinds,
+    );
+    print_named(b"local", answer.number() as u64);
+    print_number(answer.count_or(50000) as u64);
+    print_numbers(tris);
+    io::write_all(STDOUT_FILENO, b"deficits");
+    print_doubles(deficits);
+    print_kinds(kinds);
+}
+
+// The gradient at free edges.
+fn print_local_grad<'a>(
+    counts: Counts,
+    pents: &'a [u32],
+    edges: &'a [u32],
+    triangles: &'a [u32],
+    tets: &'a [u32],
+    tri_to_pents_items: &'a [u32],
+    tri_to_pents_starts: &'a [u32],
+    edge_to_tris_items: &'a [u32],
+    edge_to_tris_starts: &'a [u32],
+    edge_to_pents_items: &'a [u32],
+    edge_to_pents_starts: &'a [u32],
+    sq_lengths: &'a [f64],
+    free_edges: &'a [u32],
+    grad: &mut [f64],
+) {
+    fill(grad);
+    let outcome = lorentzian_regge::local_lorentzian_regge_action_grad(
+        counts,
+        pents,
+        edges,
+        triangles,
+        tets,
+        tri_to_pents_items,
+        tri_to_pents_starts,
+        edge_to_tris_items,
+        edge_to_tris_starts,
+        edge_to_pents_items,
+        edge_to_pents_starts,
+        sq_lengths,
+        free_edges,
+        grad,
+    );
+    print_named(b"local grad", outcome.number() as u64);
+    print_doubles(grad);
+}
+
+// The Hessian at free edges.
+fn print_hessian<'a>(
+    counts: Counts,
+    pents: &'a [u32],
+    edges: &'a [u32],
+    triangles: &'a [u32],
+    tets: &'a [u32],
+    tri_to_pents_items: &'a [u32],
+    tri_to_pents_starts: &'a [u32],
+    edge_to_tris_items: &'a [u32],
+    edge_to_tris_starts: &'a [u32],
+    edge_to_pents_items: &'a [u32],
+    edge_to_pents_starts: &'a [u32],
+    sq_lengths: &'a [f64],
+    free_edges: &'a [u32],
+    step: f64,
+    hessian: &mut [f64],
+) {
+    fill(hessian);
+    let outcome = lorentzian_regge::local_lorentzian_regge_hessian(
+        counts,
+        pents,
+        edges,
+        triangles,
+        tets,
+        tri_to_pents_items,
+        tri_to_pents_starts,
+        edge_to_tris_items,
+        edge_to_tris_starts,
+        edge_to_pents_items,
+        edge_to_pents_starts,
+        sq_lengths,
+        free_edges,
+        step,
+        hessian,
+    );
+    print_named(b"hessian", outcome.number() as u64);
+    print_doubles(hessian);
+}
+
+// All answers to a line for these free edges.
+fn print_local<'a>(
+    line: &'a [u8],
+    counts: Counts,
+    pents: &'a [u32],
+    edges: &'a [u32],
+    triangles: &'a [u32],
+    tets: &'a [u32],
+    tri_to_pents_items: &'a [u32],
+    tri_to_pents_starts: &'a [u32],
+    edge_to_tris_items: &'a [u32],
+    edge_to_tris_starts: &'a [u32],
+    edge_to_pents_items: &'a [u32],
+    edge_to_pents_starts: &'a [u32],
+    sq_lengths: &'a [f64],
+    free_edges: &'a [u32],
+) {
+    let tris_room = local_room_of(line, 0x100);
+    let deficits_room = local_room_of(line, 0x1_0000);
+    let kinds_room = local_room_of(line, 0x100_0000);
+    let grad_room = local_room_of(line, 0x1_0000_0000);
+    let hessian_room = local_room_of(line, 0x100_0000_0000);
+    let mut tris = [0; 100];
+    let mut deficits = [0.0; 100];
+    let mut kinds = [9u8; 100];
+    let mut grad = [0.0; 100];
+    let mut hessian = [0.0; 100];
+    print_local_deficits(
+        counts,
+        pents,
+        edges,
+        triangles,
+        tets,
+        tri_to_pents_items,
+        tri_to_pents_starts,
+        edge_to_tris_items,
+        edge_to_tris_starts,
+        edge_to_pents_items,
+        edge_to_pents_starts,
+        sq_lengths,
+        free_edges,
+        &mut tris[..tris_room],
+        &mut deficits[..deficits_room],
+        &mut kinds[..kinds_room],
+    );
+    print_local_grad(
+        counts,
+        pents,
+        edges,
+        triangles,
+        tets,
+        tri_to_pents_items,
+        tri_to_pents_starts,
+        edge_to_tris_items,
+        edge_to_tris_starts,
+        edge_to_pents_items,
+        edge_to_pents_starts,
+        sq_lengths,
+        free_edges,
+        &mut grad[..grad_room],
+    );
+    print_hessian(
+        counts,
+        pents,
+        edges,
+        triangles,
+        tets,
+        tri_to_pents_items,
+        tri_to_pents_starts,
+        edge_to_tris_items,
+        edge_to_tris_starts,
+        edge_to_pents_items,
+        edge_to_pents_starts,
+        sq_lengths,
+        free_edges,
+        step_of(line),
+        &mut hessian[..hessian_room],
+    );
+}
+
 // All answers to a line on these lists and lengths.
 fn print_calls<'a>(
     line: &'a [u8],
@@ -439,6 +694,24 @@ fn print_calls<'a>(
         &mut grad[..grad_room],
     );
     print_signs(sq_lengths);
+    let free_edges = free_edges_of(line);
+    let frees = frees_of(line);
+    print_local(
+        line,
+        counts,
+        pents,
+        edges,
+        triangles,
+        tets,
+        tri_to_pents_items,
+        tri_to_pents_starts,
+        edge_to_tris_items,
+        edge_to_tris_starts,
+        edge_to_pents_items,
+        edge_to_pents_starts,
+        sq_lengths,
+        &free_edges[..frees],
+    );
 }
 
 // ---- changes
@@ -615,7 +888,7 @@ fn print_line(text: &[u8], at: usize) -> usize
     let given = given_of(line);
     let pents = pents_of(line);
     print_given(line, &given[..5 * pents]);
-    at + 17 * (8 + pents + lengths_of(line))
+    at + 17 * (10 + pents + lengths_of(line) + frees_of(line))
 }
 
 // The answers to each line of the text.

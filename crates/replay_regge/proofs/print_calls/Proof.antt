@@ -50,6 +50,21 @@ print-grad-requires c κs = search needs
 print-signs-requires : tie.Need-print-signs-requires
 print-signs-requires c κs = search needs
 
+free-edges-of-requires : tie.Need-free-edges-of-requires
+free-edges-of-requires c κs = search needs
+
+frees-of-requires : tie.Need-frees-of-requires
+frees-of-requires c κs = search needs
+
+array-share-prefix-free-edges : tie.Need-array-share-prefix-free-edges
+array-share-prefix-free-edges c = search needs
+
+slice-aggregate-print-local : tie.Need-slice-aggregate-print-local
+slice-aggregate-print-local c = sym (length-take-le _ _ (search needs))
+
+print-local-requires : tie.Need-print-local-requires
+print-local-requires c κs = search needs
+
 returns : tie.Need-returns
 returns c = search needs
 
@@ -72,4 +87,9 @@ print-calls-spec =
     slice-aggregate-print-grad
     print-grad-requires
     print-signs-requires
+    free-edges-of-requires
+    frees-of-requires
+    array-share-prefix-free-edges
+    slice-aggregate-print-local
+    print-local-requires
     returns)

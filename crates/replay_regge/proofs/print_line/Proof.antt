@@ -41,11 +41,17 @@ lengths-of-requires c κs = search needs
 add-result-2 : tie.Need-add-result-2
 add-result-2 c = search needs
 
-mul-result : tie.Need-mul-result
-mul-result c = search needs
+frees-of-requires : tie.Need-frees-of-requires
+frees-of-requires c κs = search needs
 
 add-result-3 : tie.Need-add-result-3
 add-result-3 c = search needs
+
+mul-result : tie.Need-mul-result
+mul-result c = search needs
+
+add-result-4 : tie.Need-add-result-4
+add-result-4 c = search needs
 
 returns : tie.Need-returns
 returns c = search needs
@@ -66,6 +72,8 @@ print-line-spec =
     add-result
     lengths-of-requires
     add-result-2
-    mul-result
+    frees-of-requires
     add-result-3
+    mul-result
+    add-result-4
     returns)

@@ -7,7 +7,7 @@ use Rattle.replay_regge.proofs.sq_lengths_of.Statement.{statement}
 use Rattle.replay_regge.proofs.sq_lengths_of.Tie as tie
 
 abbrev Inv-loop : tie.InvT-loop
-Inv-loop line sq-lengths₀ start i₀ i-end sq-lengths i = (i ≤ i-end) × (i-end ≤ 80) × (start ≤ 16) × (80 ≡ length sq-lengths)
+Inv-loop line sq-lengths₀ start i₀ i-end sq-lengths i = (i ≤ i-end) × (i-end ≤ 80) × (start ≤ 18) × (80 ≡ length sq-lengths)
 
 abbrev μ-loop : tie.MeasureT-loop
 μ-loop line sq-lengths₀ start i₀ i-end sq-lengths i = i-end - i

@@ -10,7 +10,7 @@ use Rattle.complex.specs.Builder.{lists}
 use Rattle.complex.specs.Check.{isBuilt, checkedOf}
 use Rattle.complex.specs.declared.numbering.Face.the-variants.{Edge, Triangle}
 use Rattle.complex.proofs.BuiltComplex.{built-says}
-use Rattle.complex.proofs.Comparisons.{noted-long, noted-after}
+use Rattle.complex.proofs.Comparisons.{noted-of, noted-long, noted-after}
 use Rattle.lists.proofs.Tests.{said}
 use Rattle.complex.proofs.comparison.check_built.Statement.{statement}
 use Rattle.complex.proofs.comparison.check_built.Tie as tie
@@ -56,7 +56,7 @@ array-share-prefix-edge-numbers c = let a = c .before .before .before .before .b
     let l = lists (a .pents .now) (a .edges .now) (a .triangles .now) (a .tets .now) (a .tri-to-pents-items .now) (a .tri-to-pents-starts .now) (a .edge-to-tris-items .now) (a .edge-to-tris-starts .now) (a .edge-to-pents-items .now) (a .edge-to-pents-starts .now) in
     let h : isBuilt (a .counts) l ≡ true = sym (c .before .before .before .before .before .before .before .is-built-noting .ensures .0) ∙ not-false (c .before .before .before .before .before .before .before .is-built-noting .result) (c .before .before .before .before .if1 .left) in
     let b = said (built-says (a .counts) l) h in
-    let n = c .before .before .before .before .before .before .before .is-built-noting .ensures .1 (not-false (c .before .before .before .before .before .before .before .is-built-noting .result) (c .before .before .before .before .if1 .left)) in
+    let n = noted-of (c .before .before .before .before .before .before .before .is-built-noting .ensures .1) (not-false (c .before .before .before .before .before .before .before .is-built-noting .result) (c .before .before .before .before .if1 .left)) in
     noted-long (a .counts) l b Edge refl (c .before .before .before .before .before .before .before .is-built-noting .last .1 .1 .1 .1 .1 .1 .1 .1 .1 .1 .1 .0) (n .edges)
 
 slice-aggregate-copy-row : tie.Need-slice-aggregate-copy-row
@@ -64,7 +64,7 @@ slice-aggregate-copy-row c = let a = c .before .before .before .before .before .
     let l = lists (a .pents .now) (a .edges .now) (a .triangles .now) (a .tets .now) (a .tri-to-pents-items .now) (a .tri-to-pents-starts .now) (a .edge-to-tris-items .now) (a .edge-to-tris-starts .now) (a .edge-to-pents-items .now) (a .edge-to-pents-starts .now) in
     let h : isBuilt (a .counts) l ≡ true = sym (c .before .before .before .before .before .before .before .before .is-built-noting .ensures .0) ∙ not-false (c .before .before .before .before .before .before .before .before .is-built-noting .result) (c .before .before .before .before .before .if1 .left) in
     let b = said (built-says (a .counts) l) h in
-    let n = c .before .before .before .before .before .before .before .before .is-built-noting .ensures .1 (not-false (c .before .before .before .before .before .before .before .before .is-built-noting .result) (c .before .before .before .before .before .if1 .left)) in
+    let n = noted-of (c .before .before .before .before .before .before .before .before .is-built-noting .ensures .1) (not-false (c .before .before .before .before .before .before .before .before .is-built-noting .result) (c .before .before .before .before .before .if1 .left)) in
     sym (length-take-le (10 * a .counts .pentachorons) (c .before .before .before .before .before .before .before .before .is-built-noting .last .1 .1 .1 .1 .1 .1 .1 .1 .1 .1 .1 .0) (noted-long (a .counts) l b Edge refl (c .before .before .before .before .before .before .before .before .is-built-noting .last .1 .1 .1 .1 .1 .1 .1 .1 .1 .1 .1 .0) (n .edges)))
 
 copy-row-requires : tie.Need-copy-row-requires
@@ -72,7 +72,7 @@ copy-row-requires c κs = let a = c .before .before .before .before .before .bef
     let l = lists (a .pents .now) (a .edges .now) (a .triangles .now) (a .tets .now) (a .tri-to-pents-items .now) (a .tri-to-pents-starts .now) (a .edge-to-tris-items .now) (a .edge-to-tris-starts .now) (a .edge-to-pents-items .now) (a .edge-to-pents-starts .now) in
     let h : isBuilt (a .counts) l ≡ true = sym (c .before .before .before .before .before .before .before .before .is-built-noting .ensures .0) ∙ not-false (c .before .before .before .before .before .before .before .before .is-built-noting .result) (c .before .before .before .before .before .if1 .left) in
     let b = said (built-says (a .counts) l) h in
-    let n = c .before .before .before .before .before .before .before .before .is-built-noting .ensures .1 (not-false (c .before .before .before .before .before .before .before .before .is-built-noting .result) (c .before .before .before .before .before .if1 .left)) in
+    let n = noted-of (c .before .before .before .before .before .before .before .before .is-built-noting .ensures .1) (not-false (c .before .before .before .before .before .before .before .before .is-built-noting .result) (c .before .before .before .before .before .if1 .left)) in
     omega (arith, length-take-le (10 * a .counts .pentachorons) (c .before .before .before .before .before .before .before .before .is-built-noting .last .1 .1 .1 .1 .1 .1 .1 .1 .1 .1 .1 .0) (noted-long (a .counts) l b Edge refl (c .before .before .before .before .before .before .before .before .is-built-noting .last .1 .1 .1 .1 .1 .1 .1 .1 .1 .1 .1 .0) (n .edges)), c .before .before .before .if2 .left)
 
 array-share-prefix-tri-numbers : tie.Need-array-share-prefix-tri-numbers
@@ -80,7 +80,7 @@ array-share-prefix-tri-numbers c = let a = c .before .before .before .before .be
     let l = lists (a .pents .now) (a .edges .now) (a .triangles .now) (a .tets .now) (a .tri-to-pents-items .now) (a .tri-to-pents-starts .now) (a .edge-to-tris-items .now) (a .edge-to-tris-starts .now) (a .edge-to-pents-items .now) (a .edge-to-pents-starts .now) in
     let h : isBuilt (a .counts) l ≡ true = sym (c .before .before .before .before .before .before .before .before .before .before .before .before .is-built-noting .ensures .0) ∙ not-false (c .before .before .before .before .before .before .before .before .before .before .before .before .is-built-noting .result) (c .before .before .before .before .before .before .before .before .before .if1 .left) in
     let b = said (built-says (a .counts) l) h in
-    let n = c .before .before .before .before .before .before .before .before .before .before .before .before .is-built-noting .ensures .1 (not-false (c .before .before .before .before .before .before .before .before .before .before .before .before .is-built-noting .result) (c .before .before .before .before .before .before .before .before .before .if1 .left)) in
+    let n = noted-of (c .before .before .before .before .before .before .before .before .before .before .before .before .is-built-noting .ensures .1) (not-false (c .before .before .before .before .before .before .before .before .before .before .before .before .is-built-noting .result) (c .before .before .before .before .before .before .before .before .before .if1 .left)) in
     noted-long (a .counts) l b Triangle refl (c .before .before .before .before .before .before .before .before .before .before .before .before .is-built-noting .last .1 .1 .1 .1 .1 .1 .1 .1 .1 .1 .1 .1 .0) (n .triangles)
 
 slice-aggregate-copy-row-2 : tie.Need-slice-aggregate-copy-row-2
@@ -88,7 +88,7 @@ slice-aggregate-copy-row-2 c = let a = c .before .before .before .before .before
     let l = lists (a .pents .now) (a .edges .now) (a .triangles .now) (a .tets .now) (a .tri-to-pents-items .now) (a .tri-to-pents-starts .now) (a .edge-to-tris-items .now) (a .edge-to-tris-starts .now) (a .edge-to-pents-items .now) (a .edge-to-pents-starts .now) in
     let h : isBuilt (a .counts) l ≡ true = sym (c .before .before .before .before .before .before .before .before .before .before .before .before .before .is-built-noting .ensures .0) ∙ not-false (c .before .before .before .before .before .before .before .before .before .before .before .before .before .is-built-noting .result) (c .before .before .before .before .before .before .before .before .before .before .if1 .left) in
     let b = said (built-says (a .counts) l) h in
-    let n = c .before .before .before .before .before .before .before .before .before .before .before .before .before .is-built-noting .ensures .1 (not-false (c .before .before .before .before .before .before .before .before .before .before .before .before .before .is-built-noting .result) (c .before .before .before .before .before .before .before .before .before .before .if1 .left)) in
+    let n = noted-of (c .before .before .before .before .before .before .before .before .before .before .before .before .before .is-built-noting .ensures .1) (not-false (c .before .before .before .before .before .before .before .before .before .before .before .before .before .is-built-noting .result) (c .before .before .before .before .before .before .before .before .before .before .if1 .left)) in
     sym (length-take-le (10 * a .counts .pentachorons) (c .before .before .before .before .before .before .before .before .before .before .before .before .before .is-built-noting .last .1 .1 .1 .1 .1 .1 .1 .1 .1 .1 .1 .1 .0) (noted-long (a .counts) l b Triangle refl (c .before .before .before .before .before .before .before .before .before .before .before .before .before .is-built-noting .last .1 .1 .1 .1 .1 .1 .1 .1 .1 .1 .1 .1 .0) (n .triangles)))
 
 copy-row-requires-2 : tie.Need-copy-row-requires-2
@@ -96,7 +96,7 @@ copy-row-requires-2 c κs = let a = c .before .before .before .before .before .b
     let l = lists (a .pents .now) (a .edges .now) (a .triangles .now) (a .tets .now) (a .tri-to-pents-items .now) (a .tri-to-pents-starts .now) (a .edge-to-tris-items .now) (a .edge-to-tris-starts .now) (a .edge-to-pents-items .now) (a .edge-to-pents-starts .now) in
     let h : isBuilt (a .counts) l ≡ true = sym (c .before .before .before .before .before .before .before .before .before .before .before .before .before .is-built-noting .ensures .0) ∙ not-false (c .before .before .before .before .before .before .before .before .before .before .before .before .before .is-built-noting .result) (c .before .before .before .before .before .before .before .before .before .before .if1 .left) in
     let b = said (built-says (a .counts) l) h in
-    let n = c .before .before .before .before .before .before .before .before .before .before .before .before .before .is-built-noting .ensures .1 (not-false (c .before .before .before .before .before .before .before .before .before .before .before .before .before .is-built-noting .result) (c .before .before .before .before .before .before .before .before .before .before .if1 .left)) in
+    let n = noted-of (c .before .before .before .before .before .before .before .before .before .before .before .before .before .is-built-noting .ensures .1) (not-false (c .before .before .before .before .before .before .before .before .before .before .before .before .before .is-built-noting .result) (c .before .before .before .before .before .before .before .before .before .before .if1 .left)) in
     omega (arith, length-take-le (10 * a .counts .pentachorons) (c .before .before .before .before .before .before .before .before .before .before .before .before .before .is-built-noting .last .1 .1 .1 .1 .1 .1 .1 .1 .1 .1 .1 .1 .0) (noted-long (a .counts) l b Triangle refl (c .before .before .before .before .before .before .before .before .before .before .before .before .before .is-built-noting .last .1 .1 .1 .1 .1 .1 .1 .1 .1 .1 .1 .1 .0) (n .triangles)), c .before .before .before .before .before .before .before .if3 .left)
 
 same-length : tie.Need-same-length
@@ -111,7 +111,7 @@ returns-4 c = let a = c .before .before .before .before .before .before .before 
     let l = lists (a .pents .now) (a .edges .now) (a .triangles .now) (a .tets .now) (a .tri-to-pents-items .now) (a .tri-to-pents-starts .now) (a .edge-to-tris-items .now) (a .edge-to-tris-starts .now) (a .edge-to-pents-items .now) (a .edge-to-pents-starts .now) in
     let h : isBuilt (a .counts) l ≡ true = sym (c .before .before .before .before .before .before .before .before .before .before .before .before .before .before .before .before .is-built-noting .ensures .0) ∙ not-false (c .before .before .before .before .before .before .before .before .before .before .before .before .before .before .before .before .is-built-noting .result) (c .before .before .before .before .before .before .before .before .before .before .before .before .before .if1 .left) in
     let b = said (built-says (a .counts) l) h in
-    let n = c .before .before .before .before .before .before .before .before .before .before .before .before .before .before .before .before .is-built-noting .ensures .1 (not-false (c .before .before .before .before .before .before .before .before .before .before .before .before .before .before .before .before .is-built-noting .result) (c .before .before .before .before .before .before .before .before .before .before .before .before .before .if1 .left)) in
+    let n = noted-of (c .before .before .before .before .before .before .before .before .before .before .before .before .before .before .before .before .is-built-noting .ensures .1) (not-false (c .before .before .before .before .before .before .before .before .before .before .before .before .before .before .before .before .is-built-noting .result) (c .before .before .before .before .before .before .before .before .before .before .before .before .before .if1 .left)) in
     record {
       answered = rw (h, le-ltb _ _ (c .before .before .before .before .before .before .before .before .before .before .before .if2 .left), le-ltb _ _ (c .before .before .before .before .before .before .before .before .before .before .if3 .left)) refl;
       edges = noted-after (a .counts) l b Edge refl (c .before .before .before .before .before .before .before .before .before .before .before .before .before .before .before .before .is-built-noting .last .1 .1 .1 .1 .1 .1 .1 .1 .1 .1 .1 .0) (n .edges) _ _ (c .before .before .before .before .before .before .before .copy-row .ensures);

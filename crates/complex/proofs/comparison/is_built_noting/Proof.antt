@@ -19,7 +19,7 @@ has-pents-requires c κs = search needs
 returns : tie.Need-returns
 returns c = let a = c .before .before .before .before .before .before .before .before .before .before .before .before .before .before .args in
     let l = lists (a .pents .now) (a .edges .now) (a .triangles .now) (a .tets .now) (a .tri-to-pents-items .now) (a .tri-to-pents-starts .now) (a .edge-to-tris-items .now) (a .edge-to-tris-starts .now) (a .edge-to-pents-items .now) (a .edge-to-pents-starts .now) in
-    (sym (built-parts (a .counts) l ∙ rw (sym (c .before .has-pents .ensures) ∙ not-true (c .before .has-pents .result) (c .if1 .taken)) refl), λ t. absurd (not-both t refl))
+    (sym (built-parts (a .counts) l ∙ rw (sym (c .before .has-pents .ensures) ∙ not-true (c .before .has-pents .result) (c .if1 .taken)) refl), record { edges = λ t. absurd (not-both t refl); triangles = λ t. absurd (not-both t refl); edges-kept = refl; triangles-kept = refl })
 
 mul-len : tie.Need-mul-len
 mul-len c = let a = c .before .before .before .before .before .before .before .before .before .before .before .before .before .before .before .args in
@@ -56,7 +56,8 @@ returns-2 c = let a = c .before .before .before .before .before .before .before 
     let v = pents-pass (a .counts) l h in
     let rows = given-rows (a .counts) l (v .3) in
     let g : hasAllFaces (a .counts) (pentsIn (a .counts) (a .pents .now)) (a .edges .now) (a .triangles .now) (a .tets .now) ≡ false = rw rows at (sym (c .before .before .before .before .before .has-all-faces .ensures .0) ∙ not-true (c .before .before .before .before .before .has-all-faces .result) (c .if2 .taken)) in
-    (sym (built-parts (a .counts) l ∙ rw (h, g) refl), λ t. absurd (not-both t refl))
+    let n = rw rows at (c .before .before .before .before .before .has-all-faces .ensures .1) in
+    (sym (built-parts (a .counts) l ∙ rw (h, g) refl), record { edges = λ t. absurd (not-both t refl); triangles = λ t. absurd (not-both t refl); edges-kept = n .edges-kept; triangles-kept = n .triangles-kept })
 
 has-adjacency-requires : tie.Need-has-adjacency-requires
 has-adjacency-requires c κs = let a = c .before .before .before .before .before .before .before .before .before .before .before .before .before .before .before .before .before .before .before .before .before .before .before .before .args in
@@ -80,7 +81,9 @@ returns-3 c = let a = c .before .before .before .before .before .before .before 
     let v = pents-pass (a .counts) l h in
     let rows = given-rows (a .counts) l (v .3) in
     let g : hasAllFaces (a .counts) (pentsIn (a .counts) (a .pents .now)) (a .edges .now) (a .triangles .now) (a .tets .now) ≡ true = rw rows at (sym (c .before .before .before .before .before .before .has-all-faces .ensures .0) ∙ not-false (c .before .before .before .before .before .before .has-all-faces .result) (c .before .if2 .left)) in
-    (c .has-adjacency .ensures ∙ sym (built-parts (a .counts) l ∙ rw (h, g) refl), λ t. rw rows at (c .before .before .before .before .before .before .has-all-faces .ensures .1 (not-false (c .before .before .before .before .before .before .has-all-faces .result) (c .before .if2 .left))))
+    let n = rw rows at (c .before .before .before .before .before .before .has-all-faces .ensures .1) in
+    let yes = not-false (c .before .before .before .before .before .before .has-all-faces .result) (c .before .if2 .left) in
+    (c .has-adjacency .ensures ∙ sym (built-parts (a .counts) l ∙ rw (h, g) refl), record { edges = λ t. n .edges yes; triangles = λ t. n .triangles yes; edges-kept = n .edges-kept; triangles-kept = n .triangles-kept })
 
 pub is-built-noting-spec : {M : Type 1} → statement M
 is-built-noting-spec =

@@ -1,5 +1,5 @@
 -- `complex::numbering::has_faces` meets its contract. Assumes nothing.
-use Prim.Native.Nat.{_*_, _-_, _/_, _≤_}
+use Prim.Native.Nat.{_+_, _*_, _-_, _/_, _≤_}
 use mathlib.Core.Path.{_≡_, refl, sym, _∙_}
 use native.Mathlib.Nat.{mul-le-mul-left, mul-le-mul-right}
 use native.Mathlib.Omega.{arith}
@@ -11,10 +11,10 @@ use Rattle.lists.specs.Chains.{Met, Comparable}
 use Rattle.lists.specs.Lists.{gather}
 use Rattle.lists.specs.Rows.{rows}
 use Rattle.complex.proofs.FaceLists.{too-many, too-short, has-all, has-noted, has-others, comparable-none}
-use Rattle.complex.proofs.Meetings.{length-met-rows, met-next, faces-fit, face-below, count-le, width-le}
-use Rattle.lists.proofs.Chains.{met-none, met-trans}
+use Rattle.complex.proofs.Meetings.{length-met-rows, met-next, faces-fit, face-below, faces-end, count-le, width-le}
+use Rattle.lists.proofs.Chains.{met-none, met-trans, met-kept}
 use Rattle.lists.proofs.Matches.{comparable-next}
-use Rattle.lists.proofs.Rows.{length-rows, rows-wide}
+use Rattle.lists.proofs.Rows.{length-rows, rows-wide, drop-later}
 use Rattle.lists.proofs.Tests.{not-both}
 use Rattle.complex.proofs.numbering.has_faces.Statement.{statement}
 use Rattle.complex.proofs.numbering.has_faces.Tie as tie
@@ -48,7 +48,7 @@ returns c = let a = c .before .before .before .before .before .before .before .a
     let P = length (a .pents .now) / 5 in
     let width : c .before .before .width .result ≡ widthOf f = c .before .before .width .ensures in
     let count : c .before .count .result ≡ countOf f = c .before .count .ensures in
-    (sym (too-many f (rows 5 P (a .pents .now)) (a .n-faces) (a .list .now) (rows-wide 5 P (a .pents .now) (omega (arith, p .five))) (rw (length-rows 5 P (a .pents .now)) (rw count at (c .if1 .taken)))), λ t. absurd (not-both t refl))
+    (sym (too-many f (rows 5 P (a .pents .now)) (a .n-faces) (a .list .now) (rows-wide 5 P (a .pents .now) (omega (arith, p .five))) (rw (length-rows 5 P (a .pents .now)) (rw count at (c .if1 .taken)))), (λ t. absurd (not-both t refl), refl))
 
 mul-if2 : tie.Need-mul-if2 Inv-loop μ-loop
 mul-if2 c = let a = c .before .before .before .before .before .before .before .args in
@@ -67,7 +67,7 @@ returns-2 c = let a = c .before .before .before .before .before .before .before 
     let P = length (a .pents .now) / 5 in
     let width : c .before .before .before .width .result ≡ widthOf f = c .before .before .before .width .ensures in
     let count : c .before .before .count .result ≡ countOf f = c .before .before .count .ensures in
-    (sym (too-short f (rows 5 P (a .pents .now)) (a .n-faces) (a .list .now) (rw width at (c .if2 .taken))), λ t. absurd (not-both t refl))
+    (sym (too-short f (rows 5 P (a .pents .now)) (a .n-faces) (a .list .now) (rw width at (c .if2 .taken))), (λ t. absurd (not-both t refl), refl))
 
 loop-holds : tie.Need-loop-holds Inv-loop μ-loop
 unfolding rows metFaces gather
@@ -136,8 +136,14 @@ returns-3 c = let a = c .before .before .before .before .before .before .before 
     let many = length-met-rows f (l .k) (a .pents .now) (omega (arith, p .five)) in
     let below = face-below f (l .k) P (omega arith) in
     let told = rw (c .before .before .before .before .before .before .before .before .before .before .before .before .rows-at .ensures) at (rw count at (rw width at (c .before .before .before .before .before .before .before .match-rows .ensures))) in
-    let off = not-true (c .before .before .before .before .before .before .before .match-rows .result .same) (c .if3 .taken) in
-    (sym (has-others f (a .pents .now) (a .n-faces) (a .list .now) (l .k) P (omega arith) (rw (← (l .inv .5 .known)) (told .no off))), λ t. absurd (not-both t refl))
+    let off = not-true (c .before .before .before .before .before .before .before .match-rows .result .same) (c .if3 .taken) in (
+      sym (has-others f (a .pents .now) (a .n-faces) (a .list .now) (l .k) P (omega arith) (rw (← (l .inv .5 .known)) (told .no off))),
+      (
+        λ t. absurd (not-both t refl),
+        drop-later _ _ (countOf f * l .k + length (facesOf f (take 5 (drop (5 * l .k) (a .pents .now))))) (countOf f * P) (faces-end f (l .k) P (a .pents .now) (omega arith) (omega (arith, p .five))) (told .kept)
+            ∙ met-kept (widthOf f) (a .list .now) (a .list .now) (l .head) (l .next) (a .numbers .now) (l .numbers) 0 0 (metFaces f (rows 5 (l .k) (a .pents .now))) (l .n) (countOf f * P) (l .inv .5) (omega arith) (omega (arith, many, below)),
+      ),
+    )
 
 add-k : tie.Need-add-k Inv-loop μ-loop
 add-k c = search needs
@@ -183,8 +189,13 @@ returns-4 c = let a = c .before .before .before .before .before .before .before 
     let l = c .before .loop in
     let e : l .k ≡ P = omega arith in
     let met = rw e at (l .inv .5) in
-    let room : widthOf f * l .n ≤ length (a .list .now) = omega (arith, mul-le-mul-left (widthOf f) (l .inv .3), rw width at (c .before .before .if2 .left)) in
-    (has-all f (rows 5 P (a .pents .now)) (a .n-faces) (a .list .now) (l .head) (l .next) (a .numbers .now) (l .numbers) (l .n) met room, λ t. has-noted f (rows 5 P (a .pents .now)) (a .n-faces) (a .list .now) (l .head) (l .next) (a .numbers .now) (l .numbers) (l .n) met)
+    let room : widthOf f * l .n ≤ length (a .list .now) = omega (arith, mul-le-mul-left (widthOf f) (l .inv .3), rw width at (c .before .before .if2 .left)) in (
+      has-all f (rows 5 P (a .pents .now)) (a .n-faces) (a .list .now) (l .head) (l .next) (a .numbers .now) (l .numbers) (l .n) met room,
+      (
+        λ t. has-noted f (rows 5 P (a .pents .now)) (a .n-faces) (a .list .now) (l .head) (l .next) (a .numbers .now) (l .numbers) (l .n) met,
+        met-kept (widthOf f) (a .list .now) (a .list .now) (l .head) (l .next) (a .numbers .now) (l .numbers) 0 0 (metFaces f (rows 5 P (a .pents .now))) (l .n) (countOf f * P) met (omega arith) (omega (arith, length-met-rows f P (a .pents .now) (omega (arith, p .five)))),
+      ),
+    )
 
 pub has-faces-spec : {M : Type 1} → statement M
 has-faces-spec =

@@ -9,8 +9,9 @@ use borrow.Author.Needs.{needs}
 use borrow.Author.Tests.{eq-eqb, ne-eqb}
 use Rattle.lists.specs.Lists.{keep, upto}
 use Rattle.lists.specs.Rows.{over}
+use Rattle.lists.proofs.Rows.{front-turn}
 use Rattle.hinges.specs.Local.{markedBelow}
-use Rattle.hinges.proofs.Marking.{marked-here, marked-past, marked-room, marked-most, list-here}
+use Rattle.hinges.proofs.Marking.{marked-here, marked-past, marked-room, marked-most}
 use Rattle.hinges.proofs.marks.list_marked.Statement.{statement}
 use Rattle.hinges.proofs.marks.list_marked.Tie as tie
 
@@ -60,7 +61,7 @@ loop-again c =
       omega arith,
       omega (arith, w .2, l .inv .1, ap length here, length-append (markedBelow (l .t) M) (l .t ∷ [])),
       rw (w .1) (length-set (l .list) (l .count) (l .t) ∙ l .inv .2),
-      rw (w .1, w .2, here) (list-here (markedBelow (l .t) M) (l .t) (a .list .now) (l .list) (l .count) (sym (l .inv .1)) (omega (arith, room, l .inv .1, c .before .before .before .before .pre .2)) (l .inv .2) (l .inv .3)),
+      rw (w .1, w .2, here) (front-turn (markedBelow (l .t) M) (l .t) (a .list .now) (l .list) (l .count) (sym (l .inv .1)) (omega (arith, room, l .inv .1, c .before .before .before .before .pre .2)) (l .inv .2) (l .inv .3)),
     ))
     (λ w.
     let past = marked-past M (l .t) (ne-eqb _ _ (w .0 .left)) in

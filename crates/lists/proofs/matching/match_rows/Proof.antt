@@ -9,9 +9,9 @@ use borrow.Author.Needs.{needs}
 use borrow.Author.Tests.{not-true, not-false}
 use Rattle.lists.specs.Chains.{Met}
 use Rattle.lists.specs.Rows.{rows}
-use Rattle.lists.proofs.Chains.{met-none, met-trans}
+use Rattle.lists.proofs.Chains.{met-none, met-trans, met-kept}
 use Rattle.lists.proofs.Matches.{comparable-next, others-all}
-use Rattle.lists.proofs.Rows.{length-rows, rows-snoc, row-below, part-row, length-part}
+use Rattle.lists.proofs.Rows.{length-rows, rows-snoc, row-below, part-row, length-part, drop-later}
 use Rattle.lists.proofs.Tests.{not-both}
 use Rattle.lists.proofs.matching.match_rows.Statement.{statement}
 use Rattle.lists.proofs.matching.match_rows.Tie as tie
@@ -105,6 +105,7 @@ returns c = let a = c .before .before .before .before .before .before .before .b
     let part = part-row (a .w) (l .q) (a .given .now) in
     let size = length-part (a .w) (l .q) (a .count) (a .given .now) (omega arith) (p .0) in
     let told = rw size at (rw part at (c .before .before .before .before .before .before .before .before .match-row .ensures)) in
+    let all : length (rows (a .w) (a .count) (a .given .now)) ≡ a .count = length-rows (a .w) (a .count) (a .given .now) in
     let off = not-true (c .before .before .before .before .before .before .before .before .match-row .result .same) (c .if1 .taken) in
     record {
       yes = λ t. absurd (not-both t off);
@@ -112,6 +113,10 @@ returns c = let a = c .before .before .before .before .before .before .before .b
           λ f.
           others-all (a .w) (a .list .now) (a .given .now) (a .most) (l .q) (a .count) (rows (a .w) (a .n) (a .list .now)) (omega arith)
           (rw (← (l .inv .5 .known)) (told .no f));
+      kept =
+          drop-later _ _ (a .at + l .q + 1) (a .at + length (rows (a .w) (a .count) (a .given .now))) (omega (arith, all)) (told .kept)
+          ∙ met-kept (a .w) (a .list .now) (a .list .now) (l .head) (l .next) (a .numbers .now) (l .numbers) (a .n) (a .at) (rows (a .w) (l .q) (a .given .now)) (l .m) (a .at + length (rows (a .w) (a .count) (a .given .now)))
+          (l .inv .5) (omega (arith, p .1 .numbers)) (omega (arith, many, all));
     }
 
 add-q : tie.Need-add-q Inv-loop μ-loop
@@ -153,7 +158,14 @@ returns-2 c = let a = c .before .before .before .before .before .before .before 
     let p = c .before .before .before .before .before .before .before .pre in
     let l = c .before .loop in
     let e : l .q ≡ a .count = omega arith in
-    record { yes = λ t. (rw e at (l .inv .5), l .inv .4); no = λ f. absurd (not-both refl f) }
+    let met = rw e at (l .inv .5) in
+    record {
+      yes = λ t. (met, l .inv .4);
+      no = λ f. absurd (not-both refl f);
+      kept =
+          met-kept (a .w) (a .list .now) (a .list .now) (l .head) (l .next) (a .numbers .now) (l .numbers) (a .n) (a .at) (rows (a .w) (a .count) (a .given .now)) (l .m) (a .at + length (rows (a .w) (a .count) (a .given .now)))
+          met (omega (arith, p .1 .numbers)) (omega arith);
+    }
 
 pub match-rows-spec : {M : Type 1} → statement M
 match-rows-spec =

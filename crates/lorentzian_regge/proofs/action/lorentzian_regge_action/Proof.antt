@@ -5,6 +5,7 @@ use borrow.Author.Tests.{not-true, not-false}
 use borrow.Author.Needs.{needs}
 use Rattle.refusals.specs.declared.Outcome.the-variants as Outcome
 use Rattle.complex.specs.Builder.{lists}
+use Rattle.complex.proofs.Comparisons.{noted-of}
 use Rattle.hinges.specs.Hinges.{facesIn}
 use Rattle.hinges.specs.Action.{action}
 use Rattle.lorentzian_regge.specs.Calls.{lengthsCheckOf, actionBy}
@@ -37,7 +38,7 @@ slice-aggregate-lorentzian-regge-action-built-2 c = search needs
 lorentzian-regge-action-built-requires : tie.Need-lorentzian-regge-action-built-requires
 lorentzian-regge-action-built-requires c κs =
     let h = not-false (c .before .before .before .before .before .is-built-noting .result) (c .before .before .if1 .left) in
-    record { built = sym (c .before .before .before .before .before .is-built-noting .ensures .0) ∙ h; noted = c .before .before .before .before .before .is-built-noting .ensures .1 h }
+    record { built = sym (c .before .before .before .before .before .is-built-noting .ensures .0) ∙ h; noted = noted-of (c .before .before .before .before .before .is-built-noting .ensures .1) h }
 
 returns-2 : tie.Need-returns-2
 returns-2 c =

@@ -12,7 +12,8 @@ use Rattle.hinges.specs.Action.{action}
 use Rattle.lorentzian_regge.specs.declared.action.ActionAnswer.the-variants.{Done}
 use Rattle.lorentzian_regge.specs.Calls.{actionBy}
 use Rattle.lorentzian_regge.proofs.BuiltCalls.{built-measured, lengths-passed}
-use Rattle.lorentzian_regge.proofs.Scratch.{scratch-room, action-front}
+use Rattle.hinges.proofs.Marking.{scratch-room}
+use Rattle.lorentzian_regge.proofs.Scratch.{action-front}
 use Rattle.lorentzian_regge.proofs.action.lorentzian_regge_action_built.Statement.{statement}
 use Rattle.lorentzian_regge.proofs.action.lorentzian_regge_action_built.Tie as tie
 

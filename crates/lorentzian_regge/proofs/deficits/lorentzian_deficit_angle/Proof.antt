@@ -4,6 +4,7 @@ use lib.ListN.{length}
 use borrow.Author.Tests.{not-true, not-false}
 use borrow.Author.Needs.{needs}
 use Rattle.complex.specs.Builder.{lists}
+use Rattle.complex.proofs.Comparisons.{noted-of}
 use Rattle.hinges.specs.Hinges.{facesIn, hinges, hingeIn}
 use Rattle.lorentzian_regge.specs.Calls.{lengthsCheckOf, triangleCheckOf, hingeBy}
 use Rattle.lorentzian_regge.proofs.BuiltCalls.{not-built, others-decide}
@@ -35,7 +36,7 @@ slice-aggregate-lorentzian-deficit-angle-built-2 c = search needs
 lorentzian-deficit-angle-built-requires : tie.Need-lorentzian-deficit-angle-built-requires
 lorentzian-deficit-angle-built-requires c κs =
     let h = not-false (c .before .before .before .before .before .is-built-noting .result) (c .before .before .if1 .left) in
-    record { built = sym (c .before .before .before .before .before .is-built-noting .ensures .0) ∙ h; noted = c .before .before .before .before .before .is-built-noting .ensures .1 h }
+    record { built = sym (c .before .before .before .before .before .is-built-noting .ensures .0) ∙ h; noted = noted-of (c .before .before .before .before .before .is-built-noting .ensures .1) h }
 
 returns-2 : tie.Need-returns-2
 returns-2 c =

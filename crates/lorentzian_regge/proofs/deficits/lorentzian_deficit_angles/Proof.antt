@@ -4,6 +4,7 @@ use lib.ListN.{length}
 use borrow.Author.Tests.{not-true, not-false}
 use borrow.Author.Needs.{needs}
 use Rattle.complex.specs.Builder.{lists}
+use Rattle.complex.proofs.Comparisons.{noted-of}
 use Rattle.lorentzian_regge.specs.Calls.{lengthsCheckOf, roomCheckOf, shortTable}
 use Rattle.lorentzian_regge.proofs.BuiltCalls.{not-built, others-decide}
 use Rattle.lorentzian_regge.proofs.deficits.lorentzian_deficit_angles.Statement.{statement}
@@ -34,7 +35,7 @@ slice-aggregate-lorentzian-deficit-angles-built-2 c = search needs
 lorentzian-deficit-angles-built-requires : tie.Need-lorentzian-deficit-angles-built-requires
 lorentzian-deficit-angles-built-requires c κs =
     let h = not-false (c .before .before .before .before .before .before .before .is-built-noting .result) (c .before .before .before .before .if1 .left) in
-    record { built = sym (c .before .before .before .before .before .before .before .is-built-noting .ensures .0) ∙ h; noted = c .before .before .before .before .before .before .before .is-built-noting .ensures .1 h }
+    record { built = sym (c .before .before .before .before .before .before .before .is-built-noting .ensures .0) ∙ h; noted = noted-of (c .before .before .before .before .before .before .before .is-built-noting .ensures .1) h }
 
 same-length : tie.Need-same-length
 same-length c = search needs

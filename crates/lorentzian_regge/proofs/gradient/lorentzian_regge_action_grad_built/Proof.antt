@@ -11,7 +11,8 @@ use Rattle.complex.specs.Builder.{lists}
 use Rattle.hinges.specs.Hinges.{facesIn}
 use Rattle.lorentzian_regge.specs.Calls.{lengthsCheckOf, roomCheckOf, shortGradient}
 use Rattle.lorentzian_regge.proofs.BuiltCalls.{built-measured, lengths-passed, room-passed}
-use Rattle.lorentzian_regge.proofs.Scratch.{scratch-room, entries-over, gradient-front}
+use Rattle.hinges.proofs.Marking.{scratch-room}
+use Rattle.lorentzian_regge.proofs.Scratch.{entries-over, gradient-front}
 use Rattle.lorentzian_regge.proofs.gradient.lorentzian_regge_action_grad_built.Statement.{statement}
 use Rattle.lorentzian_regge.proofs.gradient.lorentzian_regge_action_grad_built.Tie as tie
 

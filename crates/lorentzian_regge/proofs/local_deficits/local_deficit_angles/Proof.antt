@@ -4,6 +4,7 @@ use lib.ListN.{length}
 use borrow.Author.Needs.{needs}
 use borrow.Author.Tests.{not-true, not-false}
 use Rattle.complex.specs.Builder.{lists}
+use Rattle.complex.proofs.Comparisons.{noted-of}
 use Rattle.hinges.specs.Hinges.{facesIn}
 use Rattle.lorentzian_regge.specs.Calls.{lengthsCheckOf, freeCheckOf, roomCheckOf, shortLocal}
 use Rattle.lorentzian_regge.proofs.BuiltCalls.{not-built, others-decide}
@@ -35,7 +36,7 @@ slice-aggregate-local-deficit-angles-built-2 c = search needs
 local-deficit-angles-built-requires : tie.Need-local-deficit-angles-built-requires
 local-deficit-angles-built-requires c κs =
     let h = not-false (c .before .before .before .before .before .before .before .before .is-built-noting .result) (c .before .before .before .before .before .if1 .left) in
-    record { built = sym (c .before .before .before .before .before .before .before .before .is-built-noting .ensures .0) ∙ h; noted = c .before .before .before .before .before .before .before .before .is-built-noting .ensures .1 h }
+    record { built = sym (c .before .before .before .before .before .before .before .before .is-built-noting .ensures .0) ∙ h; noted = noted-of (c .before .before .before .before .before .before .before .before .is-built-noting .ensures .1) h }
 
 same-length : tie.Need-same-length
 same-length c = search needs

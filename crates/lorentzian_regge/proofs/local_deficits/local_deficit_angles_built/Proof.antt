@@ -18,7 +18,7 @@ use Rattle.hinges.specs.Local.{localTriangles}
 use Rattle.hinges.proofs.Marking.{marked-most}
 use Rattle.lorentzian_regge.specs.Calls.{lengthsCheckOf, roomCheckOf}
 use Rattle.lorentzian_regge.proofs.BuiltCalls.{room-short, room-enough}
-use Rattle.lorentzian_regge.proofs.Scratch.{scratch-room}
+use Rattle.hinges.proofs.Marking.{scratch-room}
 use Rattle.lorentzian_regge.proofs.LocalSteps.{local-passed, edges-few, local-others, local-refused, marks-local, listed-below, table-refused, table-done}
 use Rattle.lorentzian_regge.proofs.local_deficits.local_deficit_angles_built.Statement.{statement}
 use Rattle.lorentzian_regge.proofs.local_deficits.local_deficit_angles_built.Tie as tie

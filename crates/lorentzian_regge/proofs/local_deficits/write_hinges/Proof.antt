@@ -6,10 +6,10 @@ use native.Mathlib.Omega.{arith}
 use lib.ListN.{length, set, take, drop, length-set}
 use borrow.Author.Needs.{needs}
 use Rattle.lists.specs.Rows.{over}
+use Rattle.lists.proofs.Rows.{written-next, written-all}
 use Rattle.lorentzian.specs.Dihedral.{kindNumber}
 use Rattle.hinges.specs.declared.hinge.Hinge.{Hinge}
 use Rattle.hinges.specs.Hinges.{facesIn, hinges, hingeIn}
-use Rattle.lorentzian_regge.proofs.LocalSteps.{written-next, written-all}
 use Rattle.lorentzian_regge.proofs.local_deficits.write_hinges.Statement.{statement}
 use Rattle.lorentzian_regge.proofs.local_deficits.write_hinges.Tie as tie
 

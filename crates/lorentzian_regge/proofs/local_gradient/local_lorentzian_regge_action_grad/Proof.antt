@@ -5,6 +5,7 @@ use lib.ListN.{length}
 use borrow.Author.Needs.{needs}
 use borrow.Author.Tests.{not-true, not-false}
 use Rattle.complex.specs.Builder.{lists}
+use Rattle.complex.proofs.Comparisons.{noted-of}
 use Rattle.lorentzian_regge.specs.Calls.{lengthsCheckOf, freeCheckOf, roomCheckOf}
 use Rattle.lorentzian_regge.proofs.BuiltCalls.{not-built, others-decide}
 use Rattle.lorentzian_regge.proofs.local_gradient.local_lorentzian_regge_action_grad.Statement.{statement}
@@ -36,7 +37,7 @@ local-lorentzian-regge-action-grad-built-requires :
     tie.Need-local-lorentzian-regge-action-grad-built-requires
 local-lorentzian-regge-action-grad-built-requires c κs =
     let h = not-false (c .before .before .before .before .before .before .is-built-noting .result) (c .before .before .before .if1 .left) in
-    record { built = sym (c .before .before .before .before .before .before .is-built-noting .ensures .0) ∙ h; noted = c .before .before .before .before .before .before .is-built-noting .ensures .1 h }
+    record { built = sym (c .before .before .before .before .before .before .is-built-noting .ensures .0) ∙ h; noted = noted-of (c .before .before .before .before .before .before .is-built-noting .ensures .1) h }
 
 same-length : tie.Need-same-length
 same-length c = search needs

@@ -10,7 +10,7 @@ use Rattle.floats.specs.Ops.{zero}
 use Rattle.complex.specs.Builder.{lists}
 use Rattle.lorentzian_regge.specs.Calls.{lengthsCheckOf, freeCheckOf, roomCheckOf}
 use Rattle.lorentzian_regge.proofs.BuiltCalls.{room-passed}
-use Rattle.lorentzian_regge.proofs.Scratch.{scratch-room}
+use Rattle.hinges.proofs.Marking.{scratch-room}
 use Rattle.lorentzian_regge.proofs.LocalSteps.{local-passed, edges-few, entries-written}
 use Rattle.lorentzian_regge.proofs.local_gradient.local_lorentzian_regge_action_grad_built.Statement.{statement}
 use Rattle.lorentzian_regge.proofs.local_gradient.local_lorentzian_regge_action_grad_built.Tie as tie

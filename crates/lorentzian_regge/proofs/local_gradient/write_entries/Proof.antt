@@ -8,7 +8,7 @@ use lib.ListN.{length, getD, take, drop, length-set}
 use lib.Seq.{take-all}
 use borrow.Author.Needs.{needs}
 use Rattle.lists.specs.Rows.{over}
-use Rattle.lorentzian_regge.proofs.LocalSteps.{written-next, written-all}
+use Rattle.lists.proofs.Rows.{written-next, written-all}
 use Rattle.lorentzian_regge.proofs.local_gradient.write_entries.Statement.{statement}
 use Rattle.lorentzian_regge.proofs.local_gradient.write_entries.Tie as tie
 

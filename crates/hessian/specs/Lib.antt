@@ -1,0 +1,4 @@
+-- The definitions that contracts on the local Hessian cite.
+pub mod Hessian
+pub mod Parts
+pub mod Steps
