@@ -20,6 +20,7 @@ use Rattle.hessian.proofs.Placing.{placed-there}
 
 -- ---- places in a list with no repetition
 
+-- what stands at the place that is found
 pub index-get : (v : ℕ) (xs : List ℕ) → indexOf v xs < length xs → getD xs (indexOf v xs) 0 ≡ v
 unfolding indexOf
 index-get v [] h = absurd (not-suc-le-zero h)
@@ -29,6 +30,7 @@ index-get v (x ∷ xs) h = go (eqb-says x v) h (index-get v xs)
     go (pass e) k r = e
     go (fail n) k r = r (le-of-suc-le-suc k)
 
+-- where none stands twice each is found at its own place
 pub index-once : (xs : List ℕ) (i : ℕ) → Once xs → i < length xs → indexOf (getD xs i 0) xs ≡ i
 unfolding indexOf
 index-once [] i o h = absurd (not-suc-le-zero h)
@@ -43,6 +45,7 @@ one-place xs i j o h k e = sym (index-once xs i o h) ∙ ap (λ (v : ℕ). index
 
 -- ---- what is added in a row and a column
 
+-- the values of one list of addends after another
 pub adds-append : (e f : ℕ) (xs ys : List ((ℕ × ℕ) × Float)) → addsAt e f (xs ++ ys) ≡ addsAt e f xs ++ addsAt e f ys
 unfolding addsAt
 adds-append e f [] ys = refl
@@ -67,6 +70,7 @@ no-elements : {A : Type 0} (xs : List A) → ((x : A) → List·Memᴰ x xs → 
 no-elements [] n = refl
 no-elements (x ∷ xs) n = absurd (n x (List·Memᴰ·head refl))
 
+-- no addend in that row and column
 pub adds-none : (e f : ℕ) (xs : List ((ℕ × ℕ) × Float)) → ((a : (ℕ × ℕ) × Float) → List·Memᴰ a xs → a .0 .0 ≡ e → a .0 .1 ≡ f → ⊥) → addsAt e f xs ≡ []
 adds-none e f xs n = no-elements (addsAt e f xs) (λ x m. let w = adds-from e f xs m in n (w .0) (w .1) (w .2) (w .3))
 

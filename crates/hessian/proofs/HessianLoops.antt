@@ -19,10 +19,12 @@ use Rattle.hessian.specs.Steps.{ifMarked}
 
 -- ---- marks
 
+-- a mark of 1
 pub if-marked : (mark : ℕ) (es : List (ℕ × Float)) → mark ≡ 1 → ifMarked mark es ≡ es
 unfolding ifMarked
 if-marked mark es e = rw (passes (eqb-says mark 1) e) refl
 
+-- another mark
 pub if-not-marked : (mark : ℕ) (es : List (ℕ × Float)) → (mark ≡ 1 → ⊥) → ifMarked mark es ≡ []
 unfolding ifMarked
 if-not-marked mark es n = rw (fails (eqb-says mark 1) n) refl
@@ -44,15 +46,18 @@ marked-events event n marks = gather-kept event (λ t. eqb (getD marks t 0) 1) (
 -- ---- a pentachoron and a triangle
 
 module _ (F : FaceLists) (ls : List Float) (free own at : List ℕ) (s : List Float) (t : ℕ) (ae : at ≡ placesIn free own) (se : s ≡ lengthsAt ls own) where
+  -- what the program adds for a pentachoron is what the definition does
   pub second-event : (eps : Float) → own ≡ rowNumbers (F .edges) 2 (getD (F .pents) t []) → placed (length free) at (secondAdds s eps) ≡ secondAt F ls free eps t
   unfolding secondAt pentLengths
   second-event eps oe = rw (ae, se, oe) refl
 
   module _ (hinge : Hinge) (oe : own ≡ edgesAt F t) (he : hinge ≡ hingeIn (hinges F ls) t) where
+    -- what it adds on the diagonal for a triangle
     pub diagonal-event : onDiagonal own (firstAdds s (hinge .deficit)) ≡ diagonalAt F ls t
     unfolding diagonalAt triLengths
     diagonal-event = rw (se, oe, he) refl
 
+    -- and off the diagonal
     pub first-event : placed (length free) at (offDiagonal (firstAdds s (hinge .deficit))) ≡ firstAt F ls free t
     unfolding firstAt triLengths
     first-event = rw (ae, se, oe, he) refl

@@ -48,11 +48,11 @@ module _ (F : FaceLists) (ls : List Float) (free : List ℕ) (n : ℕ) where
       ∙ ap (λ (xs : List Float). scatter nan ahead (diagonalEvents free xs) now) t
       ∙ ap (scatter nan ahead (diagonalEvents free (scatter nan _⊕_ (gather (diagonalAt F ls) (localTriangles F free)) (replicate 81920 zero)))) (ne ∙ ap (λ (xs : List ℕ). scatter nan before (gather (firstAt F ls free) xs) old) b)
 
--- both
 module _ (c : Counts) (pents edges triangles items ss pe pt : List ℕ) (n : ℕ) (ok : Measured c pents edges triangles items ss pe pt n) (ls : List Float) (free : List ℕ) (eps : Float) where
   abbrev F : FaceLists
   F = facesIn c pents edges triangles
 
+  -- a list in which the second term was summed and the first put before it has the Hessian
   pub hessian-whole : Once free → Below free (c .edges) → c .edges ≤ 81920 → (old zeros second first : List Float) → zeros ≡ over (replicate (length free * length free) zero) old
       → second ≡ scatter nan _⊕_ (gather (secondAt F ls free eps) (localPents F free)) zeros
       → first ≡ scatter nan ahead (diagonalEvents free (diagonalOf F ls free)) (scatter nan before (gather (firstAt F ls free) (localTriangles F free)) second)

@@ -53,6 +53,7 @@ unfolding upto
 three-all = refl
 
 module _ (k : ℕ) (h : k < 10) where
+  -- the table has the vertices that a pair leaves
   pub vertices-are : getD vertexTable k [] ≡ leftBy k
   vertices-are = ap (λ (l : List (List ℕ)). getD l k []) vertices-all ∙ getD-table leftBy 10 k [] h
 
@@ -74,19 +75,23 @@ module _ (k : ℕ) (h : k < 10) where
       sym (getD-map length edgeTable k [] 0 h) ∙ ap (λ (l : List ℕ). getD l k 0) three-all ∙ getD-table (λ i. 3) 10 k 0 h in
       mem-upto 10 (getD (getD edgeTable k []) i 0) (said (within-says (getD edgeTable k []) (upto 10)) t (getD (getD edgeTable k []) i 0) (getD-mem (getD edgeTable k []) i 0 (omega (arith, n))))
 
+  -- the lengths at the table's edges are those of the triangle
   pub lengths-are : (s : List Float) → getD s (getD (getD edgeTable k []) 0 0) nan ∷ getD s (getD (getD edgeTable k []) 1 0) nan ∷ getD s (getD (getD edgeTable k []) 2 0) nan ∷ [] ≡ lengthsOf s (leftBy k)
   lengths-are s = rw edges-are refl
 
+  -- its three vertices are no refusal of the gradient
   pub gradient-is : (s old : List Float) → gradAfter s (getD vertexTable k []) old ≡ gradInPent s (getD (leftBy k) 0 0) (getD (leftBy k) 1 0) (getD (leftBy k) 2 0)
   gradient-is s old = rw (is-triangle, vertices-are) refl
 
 -- ---- what it adds
 
 module _ (s jac : List Float) (k : ℕ) (own : List Float) (area : Float) (oe : own ≡ lengthsOf s (leftBy k)) (ae : area ≡ absArea own) where
+  -- an area below the limit adds nothing
   pub area-skipped : lt area areaLimit ≡ true → triangleAdds s jac k ≡ []
   unfolding triangleAdds
   area-skipped t = rw (← oe, ← ae, t) refl
 
+  -- another adds its rows
   pub area-kept : lt area areaLimit ≡ false → (square factor : Float) (grad : List Float) → square ≡ areaSqOf own → factor ≡ factorOf square area
       → grad ≡ gradInPent s (getD (leftBy k) 0 0) (getD (leftBy k) 1 0) (getD (leftBy k) 2 0) → slopeRows factor grad jac k ≡ triangleAdds s jac k
   unfolding triangleAdds slopeRows slopeRow rowAdds areaSlope

@@ -23,48 +23,57 @@ use Rattle.hessian.specs.Parts.{indexOf, placedIn, placed, rowOf, slopeR
 -- ---- the search for a place
 
 module _ (e : ℕ) (xs : List ℕ) (k : ℕ) (p : indexOf e xs ≡ k + indexOf e (drop k xs)) where
+  -- the edge is found
   pub index-here : k < length xs → getD xs k 0 ≡ e → k ≡ indexOf e xs
   unfolding indexOf
   index-here h q = let z : indexOf e (drop k xs) ≡ 0 = rw (drop-cons xs k 0 h, passes (eqb-says (getD xs k 0) e) q) refl in omega (arith, p, z)
 
+  -- it is not found yet
   pub index-next : k < length xs → (getD xs k 0 ≡ e → ⊥) → indexOf e xs ≡ (k + 1) + indexOf e (drop (k + 1) xs)
   unfolding indexOf
   index-next h n =
       let z : indexOf e (drop k xs) ≡ suc (indexOf e (drop (suc k) xs)) = rw (drop-cons xs k 0 h, fails (eqb-says (getD xs k 0) e) n) refl in
       rw (add-one k) (omega (arith, p, z))
 
+  -- it is not there
   pub index-none : length xs ≤ k → k ≡ indexOf e xs
   unfolding indexOf
   index-none h = let z : indexOf e (drop k xs) ≡ 0 = rw (drop-of-length-le xs h) refl in omega (arith, p, z)
 
 -- ---- one addend
 
--- a place of a row and a column, and how large it is
+-- a row and a column have a place in the flat matrix
 pub place-below : (n i j m : ℕ) → n * n ≤ m → i < n → j < n → i * n + j < m
 place-below n i j m l h k = let p : i * n + j < n * n = digits-lt h k in omega (arith, p, l)
 
+-- a place is a small number
 pub place-small : (n i j : ℕ) → n ≤ 81920 → i < n → j < n → i * n + j < 6710886400
 place-small n i j l h k = place-below n i j 6710886400 (mul-le-mul l l) h k
 
+-- a row and a column of the matrix
 pub placed-there : (n i j : ℕ) (x : Float) → i < n → j < n → placedIn n i j x ≡ (i * n + j, x) ∷ []
 unfolding placedIn
 placed-there n i j x h k = rw (passes (both-says (ltb-says i n) (ltb-says j n)) (h, k)) refl
 
+-- no such row or column
 pub placed-nowhere : (n i j : ℕ) (x : Float) → (i < n → j < n → ⊥) → placedIn n i j x ≡ []
 unfolding placedIn
 placed-nowhere n i j x f = rw (fails (both-says (ltb-says i n) (ltb-says j n)) (λ w. f (w .0) (w .1))) refl
 
 -- ---- many addends
 
+-- addends after others
 pub placed-append : (n : ℕ) (at : List ℕ) (xs ys : List ((ℕ × ℕ) × Float)) → placed n at (xs ++ ys) ≡ placed n at xs ++ placed n at ys
 unfolding placed
 placed-append n at xs ys = gather-append (λ a. placedIn n (getD at (a .0 .0) 0) (getD at (a .0 .1) 0) (a .1)) xs ys
 
+-- addends one by one
 pub placed-map : {A : Type 0} (n : ℕ) (at : List ℕ) (g : A → (ℕ × ℕ) × Float) (xs : List A)
     → placed n at (map g xs) ≡ gather (λ x. placedIn n (getD at (g x .0 .0) 0) (getD at (g x .0 .1) 0) (g x .1)) xs
 unfolding placed
 placed-map n at g xs = gather-map (λ a. placedIn n (getD at (a .0 .0) 0) (getD at (a .0 .1) 0) (a .1)) g xs
 
+-- addends list by list
 pub placed-gather : {A : Type 0} (n : ℕ) (at : List ℕ) (g : A → List ((ℕ × ℕ) × Float)) (xs : List A) → placed n at (gather g xs) ≡ gather (λ x. placed n at (g x)) xs
 unfolding placed gather
 placed-gather n at g [] = refl
@@ -90,6 +99,7 @@ row-absent n at slope jac k e h = go (lt (absOf slope) areaLimit)
 
 -- ---- six lists of addends, one after the other
 
+-- six lists of addends, one after the other, are one list
 pub six-scatters : {S X : Type 0} (d : S) (f : S → X → S) (a1 a2 a3 a4 a5 a6 : List (ℕ × X)) (m0 m1 m2 m3 m4 m5 m6 : List S)
     → m1 ≡ scatter d f a1 m0 → m2 ≡ scatter d f a2 m1 → m3 ≡ scatter d f a3 m2 → m4 ≡ scatter d f a4 m3 → m5 ≡ scatter d f a5 m4 → m6 ≡ scatter d f a6 m5
     → m6 ≡ scatter d f (a1 ++ (a2 ++ (a3 ++ (a4 ++ (a5 ++ (a6 ++ [])))))) m0

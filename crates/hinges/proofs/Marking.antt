@@ -31,6 +31,7 @@ scratch-room m large x xs e n h = omega (arith, ap length e, length-replicate m 
 
 -- ---- marks
 
+-- marking keeps the length
 pub length-marked : (xs ms : List ℕ) → length (marked xs ms) ≡ length ms
 unfolding marked
 length-marked [] ms = refl
@@ -56,11 +57,12 @@ mark-says xs m t h = ap (λ (k : ℕ). eqb k 1) (marked-at xs (replicate m 0) t 
     go true = refl
     go false = refl
 
--- a mark that is found, and one that is not
 module _ (m : ℕ) (ms xs : List ℕ) (t : ℕ) (h : t < m) (e : ms ≡ marked xs (replicate m 0)) where
+  -- a mark that is found is that of a number of the list
   pub mark-found : eqb (getD ms t 0) 1 ≡ true → among t xs ≡ true
   mark-found g = sym (mark-says xs m t h) ∙ rw (← e) g
 
+  -- a mark that is missing is that of none
   pub mark-missing : eqb (getD ms t 0) 1 ≡ false → among t xs ≡ false
   mark-missing g = sym (mark-says xs m t h) ∙ rw (← e) g
 
@@ -71,12 +73,14 @@ marked-listed xs n m h = keep-same (λ t. eqb (getD (marked xs (replicate m 0)) 
 
 -- ---- one number more
 
+-- one number more is marked
 pub marked-next : (xs ms : List ℕ) (k : ℕ) → k < length xs → marked (take (k + 1) xs) ms ≡ set (marked (take k xs) ms) (getD xs k 0) 1
 unfolding marked
 marked-next xs ms k h =
     ap (λ (l : List ℕ). foldl (λ ms t. set ms t 1) ms l) (ap (λ (n : ℕ). take n xs) (add-one k) ∙ take-suc xs k 0 h)
     ∙ foldl-append (λ ms t. set ms t 1) ms (take k xs) (getD xs k 0 ∷ [])
 
+-- numbers after others
 pub marked-append : (xs ys ms : List ℕ) → marked (xs ++ ys) ms ≡ marked ys (marked xs ms)
 unfolding marked
 marked-append xs ys ms = foldl-append (λ ms t. set ms t 1) ms xs ys

@@ -1,6 +1,7 @@
 // What the Lorentzian Regge action is made of, by the numbers of triangles and pentachorons: the table of all hinges, the hinge of
 // one triangle, areas, what a triangle adds to the gradient, and marks of what lies on free edges. Nothing is refused here: functions
-// ask for what a built complex with as many lengths as edges has (`Measured`). NaN and infinities are lawful lengths.
+// ask for what a built complex with as many lengths as edges gives them (`Measured`, or a part of it). NaN and infinities are lawful
+// lengths.
 mod area;
 mod contributions;
 mod dihedrals;

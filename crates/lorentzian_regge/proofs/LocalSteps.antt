@@ -67,6 +67,7 @@ pub record Passed (c : Counts) (l : Lists) (pe pt free : List ℕ) (n : ℕ) : T
   pub on-triangles : holds (trianglesIn c (l .triangles)) (edgesIn c (l .edges)) (l .edgeToTris) (l .edgeToTrisStarts) ≡ true
   pub on-pents : holds (pentsIn c (l .pents)) (edgesIn c (l .edges)) (l .edgeToPents) (l .edgeToPentsStarts) ≡ true
 
+-- it has them
 pub local-passed : (c : Counts) (l : Lists) (pe pt free : List ℕ) (n : ℕ) (others : Outcome) → BuiltWith c l pe pt → lengthsCheckOf c n (freeCheckOf c free others) ≡ Done → Passed c l pe pt free n × (others ≡ Done)
 local-passed c l pe pt free n others w h =
     let p = lengths-passed c n (freeCheckOf c free others) h in

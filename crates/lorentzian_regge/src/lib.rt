@@ -1,6 +1,6 @@
-// The Lorentzian Regge action of a complex and what it is made of (lorentzian_regge.rs): the deficits of its hinges, its action, the
-// action's gradient, the same and the Hessian at free edges, and the signs of squared lengths. A function that ends in `_built` takes
-// a built complex with its incidence lists and does not check it again. NaN and infinities are lawful lengths.
+// The calls of lorentzian_regge.rs over a complex, with their refusals: deficits, the action, its gradient; deficits, gradient and
+// Hessian at free edges alone; and the signs of squared lengths. A function that ends in `_built` takes a built complex with its
+// incidence lists and does not check it again. NaN and infinities are lawful lengths.
 mod action;
 mod checks;
 mod deficits;
