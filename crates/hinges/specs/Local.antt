@@ -47,7 +47,7 @@ localGradient F ls free = map (λ e. getD (gradient F ls) e nan) free
 unfoldable pub atFree : List ℕ → List (ℕ × Float) → List (ℕ × Float)
 atFree free es = gather (λ a. map (λ k. (k, a .1)) (places (a .0) 0 free)) es
 
--- the same as the Rust sums it: triangles ascending, their hinges worked out by themselves, only free edges' entries
+-- the same as the Rust sums it for distinct free edges: triangles ascending, their hinges worked out by themselves, only free edges' entries
 unfoldable pub summedGradient : FaceLists → List (List ℕ) → List Float → List ℕ → List Float
 summedGradient F triToPents ls free =
     scatter nan _⊕_ (gather (λ t. atFree free (contributionsOf (edgesAt F t) (triLengths F ls t) (hingeAt F triToPents ls t .deficit))) (localTriangles F free)) (replicate (length free) zero)
