@@ -4,6 +4,7 @@ use crate::guards::Guarded;
 use crate::library;
 use crate::report::{GUARD, GUARD_BYTE, add_all, answers, bytes, doubles, of_doubles};
 use crate::tally::{Tally, of_numbers, of_values};
+use calls::differences::Differences;
 use hinges::distance::Distance;
 use hinges::local::{self, Answers, Free, Hinges};
 use phyz_regge::complex::SimplicialComplex;
@@ -23,6 +24,14 @@ pub struct LocalReport {
     hinges: Tally,
     gradient: Tally,
     hessian: Tally,
+    entries: Entries,
+}
+
+/// Gradients that were asked for twice and compared with our gradient of all edges: no calls of their own.
+#[derive(Default)]
+struct Entries {
+    compared: u64,
+    differences: Differences,
 }
 
 /// The unaltered Rust's distance from us.
@@ -154,8 +163,8 @@ impl LocalReport {
         let again = self.gradient(kind, asked, free);
         let of_all: Vec<u64> = asked.free.edges.iter().map(|&edge| global[edge as usize]).collect();
         let found = [of_values("again", &again, &grad), of_doubles("of all edges", &grad, &of_all, free)];
-        let found: Vec<String> = found.into_iter().flatten().collect();
-        self.gradient.add("again and of all edges", 0, || asked.shown(), &found);
+        self.entries.compared += 1;
+        found.into_iter().flatten().for_each(|found| self.entries.differences.add(&format!("{}\n  {found}", asked.shown())));
         let hessian = self.hessian(kind, asked, entries);
         let ours = hinges.deficits.iter().map(|bits| f64::from_bits(*bits)).zip(hinges.kinds);
         let angles = theirs.deficits.iter().copied().zip(theirs.kinds.iter().copied());
@@ -172,7 +181,9 @@ impl LocalReport {
             (&self.hessian, "local_lorentzian_regge_hessian"),
         ];
         functions.iter().for_each(|(tally, name)| tally.print(name));
-        functions.iter().map(|(tally, _)| tally.differences.0).sum()
+        let Entries { compared, differences } = &self.entries;
+        println!("{compared} local gradients compared with a second call's and with our gradient of all edges");
+        functions.iter().map(|(tally, _)| tally.differences.0).sum::<u64>() + differences.0
     }
 }
 
