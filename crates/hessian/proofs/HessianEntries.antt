@@ -25,7 +25,7 @@ use Rattle.hinges.specs.Action.{edgesAt, triLengths, absArea, areaLimit}
 use Rattle.hinges.specs.Parts.{Found}
 use Rattle.hinges.specs.Local.{met, listed, localTriangles, localPents}
 use Rattle.hinges.proofs.SharedTriangle.{face-lies, edges-three, edges-once}
-use Rattle.hessian.specs.Hessian.{areaSecond, firstAdds, areaSlope, leftBy, lengthsOf, rowAdds, triangleAdds, secondAdds, named, addsAt, firstOf, secondOf}
+use Rattle.hessian.specs.Hessian.{areaSecond, nineAdds, firstAdds, areaSlope, leftBy, lengthsOf, slopeRow, rowAdds, triangleAdds, secondAdds, named, addsAt, firstOf, secondOf}
 use Rattle.hessian.specs.Parts.{offDiagonal, firstPlaced, diagonalAt, firstAt, secondAt}
 use Rattle.hessian.proofs.Addends.{Inside, named-from, adds-from, adds-none, entry-adds, off-only, off-adds, off-none, on-adds, kept-adds}
 
@@ -36,7 +36,7 @@ mem-cond true xs m = absurd (List·Memᴰ·not-nil m)
 mem-cond false xs m = m
 
 first-inside : (s : List Float) (deficit : Float) → Inside 3 (firstAdds s deficit)
-unfolding firstAdds
+unfolding firstAdds nineAdds
 first-inside s deficit a m =
     let w = mem-gather (λ i. map (λ j. ((i, j), areaSecond s (absArea s) i j ⊗ deficit)) (upto 3)) (upto 3) (mem-cond (lt (absArea s) areaLimit) (gather (λ i. map (λ j. ((i, j), areaSecond s (absArea s) i j ⊗ deficit)) (upto 3)) (upto 3)) m) in
     let v : (j : ℕ) × List·Memᴰ j (upto 3) × (((w .0, j), areaSecond s (absArea s) (w .0) j ⊗ deficit) ≡ a) = Memᴰ·of-map (λ j. ((w .0, j), areaSecond s (absArea s) (w .0) j ⊗ deficit)) (upto 3) (w .2) in
@@ -44,7 +44,7 @@ first-inside s deficit a m =
 
 -- a row's addends: their places, and their values are products
 row-inside : (s jac : List Float) (k e : ℕ) → e < 10 → (a : (ℕ × ℕ) × Float) → List·Memᴰ a (rowAdds s jac k e) → (a .0 .0 < 10) × (a .0 .1 < 10) × T (fits binary64 (a .1))
-unfolding rowAdds
+unfolding rowAdds slopeRow
 row-inside s jac k e h a m =
     let slope = areaSlope s (leftBy k) e in
     let row : ℕ → (ℕ × ℕ) × Float = λ f. ((e, f), slope ⊗ neg (getD jac (10 * k + f) nan)) in

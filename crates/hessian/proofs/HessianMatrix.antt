@@ -26,7 +26,7 @@ use Rattle.hinges.specs.Action.{edgesAt, triLengths, absArea, areaLimit}
 use Rattle.hinges.specs.Parts.{Found}
 use Rattle.hinges.specs.Local.{localTriangles, localPents}
 use Rattle.hinges.proofs.SharedTriangle.{edges-three, edges-once, one-triangle}
-use Rattle.hessian.specs.Hessian.{areaSecond, firstAdds, named, addsAt, firstOf, secondOf, firstTerm, secondTerm, entry, localHessian}
+use Rattle.hessian.specs.Hessian.{areaSecond, nineAdds, firstAdds, named, addsAt, firstOf, secondOf, firstTerm, secondTerm, entry, localHessian}
 use Rattle.hessian.specs.Parts.{before, firstPlaced, diagonalAt, firstAt, secondAt}
 use Rattle.hessian.specs.Steps.{ahead, diagonalEvents}
 use Rattle.hessian.proofs.Addends.{named-from, one-place, adds-append, adds-from, placed-below}
@@ -99,7 +99,7 @@ module _ (e f : ℕ) where
 
 -- what a triangle adds there
 few-first : (es : List ℕ) (s : List Float) (deficit : Float) (e f : ℕ) → Once es → length es ≡ 3 → length (addsAt e f (named es (firstAdds s deficit))) ≤ 1
-unfolding firstAdds addsAt
+unfolding firstAdds nineAdds addsAt
 few-first es s deficit e f once three = go (lt (absArea s) areaLimit)
   where
     go : (b : Bool) → length (addsAt e f (named es (cond b [] (gather (λ i. map (λ j. ((i, j), areaSecond s (absArea s) i j ⊗ deficit)) (upto 3)) (upto 3))))) ≤ 1

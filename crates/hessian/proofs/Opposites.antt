@@ -11,8 +11,8 @@ use Rattle.lists.proofs.Tests.{said}
 use Rattle.lists.proofs.Elements.{getD-mem, getD-map, getD-table, mem-upto, within-says}
 use Rattle.lorentzian.specs.Triangle.{edgeOf, edgeIdx, noTriangle, gradInPent, gradAfter}
 use Rattle.hinges.specs.Action.{areaSqOf, absArea, areaLimit, factorOf}
-use Rattle.hessian.specs.Hessian.{leftBy, lengthsOf, areaSlope, rowAdds, triangleAdds}
-use Rattle.hessian.specs.Parts.{slopeRow, slopeRows}
+use Rattle.hessian.specs.Hessian.{leftBy, lengthsOf, areaSlope, rowAdds, triangleAdds, slopeRow}
+use Rattle.hessian.specs.Parts.{slopeRows}
 
 -- ---- tables
 

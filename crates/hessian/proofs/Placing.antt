@@ -18,7 +18,8 @@ use Rattle.lists.proofs.Tests.{eqb-says, ltb-says, passes, fails, both-says}
 use Rattle.lists.proofs.Elements.{gather-append, gather-map}
 use Rattle.lists.proofs.Loops.{scatter-append}
 use Rattle.hinges.specs.Action.{areaLimit}
-use Rattle.hessian.specs.Parts.{indexOf, placedIn, placed, rowOf, slopeRow}
+use Rattle.hessian.specs.Hessian.{rowOf, slopeRow}
+use Rattle.hessian.specs.Parts.{indexOf, placedIn, placed}
 
 -- ---- the search for a place
 

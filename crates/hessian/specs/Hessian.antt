@@ -28,9 +28,13 @@ areaSecond s area i j =
     cond (le zero (areaSqOf s)) one (neg one) ⊗ areaSqSecond i j ⊗ (one ⊘ (two ⊗ area))
     ⊖ getD grad i nan ⊗ getD grad j nan ⊗ (one ⊘ (dbl 0x4010_0000_0000_0000 ⊗ area ⊗ area ⊗ area))
 
--- what a triangle adds, by the places 0, 1, 2 of its edges; nothing if its area is skipped, which a NaN is not
+-- what a triangle of an area adds, by the places 0, 1, 2 of its edges
+unfoldable pub nineAdds : List Float → Float → Float → List ((ℕ × ℕ) × Float)
+nineAdds s area deficit = gather (λ i. map (λ j. ((i, j), areaSecond s area i j ⊗ deficit)) (upto 3)) (upto 3)
+
+-- what a triangle adds; nothing if its area is skipped, which a NaN is not
 unfoldable pub firstAdds : List Float → Float → List ((ℕ × ℕ) × Float)
-firstAdds s deficit = cond (lt (absArea s) areaLimit) [] (gather (λ i. map (λ j. ((i, j), areaSecond s (absArea s) i j ⊗ deficit)) (upto 3)) (upto 3))
+firstAdds s deficit = cond (lt (absArea s) areaLimit) [] (nineAdds s (absArea s) deficit)
 
 -- ---- the second term: derivatives of the area, times those of the dihedrals
 
@@ -46,11 +50,17 @@ lengthsOf s v = lengthsAt s (edgeIdx (getD v 0 0) (getD v 1 0) ∷ edgeIdx (getD
 unfoldable pub areaSlope : List Float → List ℕ → ℕ → Float
 areaSlope s v e = factorOf (areaSqOf (lengthsOf s v)) (absArea (lengthsOf s v)) ⊗ getD (gradInPent s (getD v 0 0) (getD v 1 0) (getD v 2 0)) e nan
 
--- what the triangle opposite the k-th pair adds in the row of the e-th edge; nothing if the area's derivative is below the limit, which a NaN is not
+-- a row of the e-th edge, by the derivative of an area and those of the k-th dihedral
+abbrev pub rowOf : Float → List Float → ℕ → ℕ → List ((ℕ × ℕ) × Float)
+rowOf slope jac k e = map (λ f. ((e, f), slope ⊗ neg (getD jac (10 * k + f) nan))) (upto 10)
+
+-- the same; nothing if the area's derivative is below the limit, which a NaN is not
+unfoldable pub slopeRow : Float → List Float → ℕ → ℕ → List ((ℕ × ℕ) × Float)
+slopeRow slope jac k e = cond (lt (absOf slope) areaLimit) [] (rowOf slope jac k e)
+
+-- what the triangle opposite the k-th pair adds in the row of the e-th edge
 unfoldable pub rowAdds : List Float → List Float → ℕ → ℕ → List ((ℕ × ℕ) × Float)
-rowAdds s jac k e =
-    let slope = areaSlope s (leftBy k) e in
-    cond (lt (absOf slope) areaLimit) [] (map (λ f. ((e, f), slope ⊗ neg (getD jac (10 * k + f) nan))) (upto 10))
+rowAdds s jac k e = slopeRow (areaSlope s (leftBy k) e) jac k e
 
 -- what it adds in all rows; nothing if its area is skipped, which a NaN is not
 unfoldable pub triangleAdds : List Float → List Float → ℕ → List ((ℕ × ℕ) × Float)

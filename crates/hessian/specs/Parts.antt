@@ -12,7 +12,7 @@ use Rattle.lists.specs.Lists.{keep, gather, upto}
 use Rattle.complex.specs.Complex.{rowNumbers}
 use Rattle.hinges.specs.Hinges.{FaceLists, pentLengths, hinges, hingeIn}
 use Rattle.hinges.specs.Action.{edgesAt, triLengths, areaLimit}
-use Rattle.hessian.specs.Hessian.{areaSecond, firstAdds, secondAdds}
+use Rattle.hessian.specs.Hessian.{slopeRow, firstAdds, secondAdds}
 
 -- ---- places
 
@@ -35,23 +35,11 @@ placed n at adds = gather (λ a. placedIn n (getD at (a .0 .0) 0) (getD at (a .0
 
 -- ---- rows
 
--- a row of the e-th edge, by the derivative of an area and those of the k-th dihedral
-abbrev pub rowOf : Float → List Float → ℕ → ℕ → List ((ℕ × ℕ) × Float)
-rowOf slope jac k e = map (λ f. ((e, f), slope ⊗ neg (getD jac (10 * k + f) nan))) (upto 10)
-
--- the same; nothing if the area's derivative is below the limit
-unfoldable pub slopeRow : Float → List Float → ℕ → ℕ → List ((ℕ × ℕ) × Float)
-slopeRow slope jac k e = cond (lt (absOf slope) areaLimit) [] (rowOf slope jac k e)
-
 -- the rows of all ten edges, by an area's factor and the derivatives of its square
 unfoldable pub slopeRows : Float → List Float → List Float → ℕ → List ((ℕ × ℕ) × Float)
 slopeRows factor grad jac k = gather (λ e. slopeRow (factor ⊗ getD grad e nan) jac k e) (upto 10)
 
 -- ---- the first term, on the diagonal and off it
-
--- what a triangle of an area adds, by the places 0, 1, 2 of its edges
-unfoldable pub nineAdds : List Float → Float → Float → List ((ℕ × ℕ) × Float)
-nineAdds s area deficit = gather (λ i. map (λ j. ((i, j), areaSecond s area i j ⊗ deficit)) (upto 3)) (upto 3)
 
 -- the addends on the diagonal, by the numbers of edges
 unfoldable pub onDiagonal : List ℕ → List ((ℕ × ℕ) × Float) → List (ℕ × Float)

@@ -18,8 +18,8 @@ ghost use Rattle.lists.specs.Groups.{Below};
 ghost use Rattle.lists.specs.Loops.{scatter};
 ghost use Rattle.complex.specs.Incidence.{edgeList};
 ghost use Rattle.lorentzian.specs.Triangle.{gradInPent};
-ghost use Rattle.hessian.specs.Hessian.{areaSecond, firstAdds, leftBy, lengthsOf, triangleAdds, secondAdds};
-ghost use Rattle.hessian.specs.Parts.{indexOf, placesIn, placedIn, placed, rowOf, slopeRow, slopeRows, nineAdds, onDiagonal, offDiagonal, before};
+ghost use Rattle.hessian.specs.Hessian.{areaSecond, firstAdds, leftBy, lengthsOf, triangleAdds, secondAdds, rowOf, slopeRow, nineAdds};
+ghost use Rattle.hessian.specs.Parts.{indexOf, placesIn, placedIn, placed, slopeRows, onDiagonal, offDiagonal, before};
 
 // The vertices of the triangle opposite each pair 01, 02, 03, 04, 12, 13, 14, 23, 24, 34.
 const VERTICES: [[usize; 3]; 10] = [

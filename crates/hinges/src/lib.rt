@@ -20,6 +20,7 @@ pub use hinge::KindByte;
 pub use hinge::kind_in;
 pub use marks::count_marked;
 pub use marks::list_marked;
+pub use marks::mark_all;
 pub use marks::mark_pents;
 pub use marks::mark_tris;
 pub use marks::stands_twice;

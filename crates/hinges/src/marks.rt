@@ -14,7 +14,7 @@ ghost use Rattle.complex.specs.Check.{pentsIn, edgesIn, trianglesIn, holds};
 ghost use Rattle.hinges.specs.Local.{met, marked, markedBelow};
 
 // Marks all numbers of a list.
-fn mark_all(numbers: &[u32], marks: &mut [u8])
+pub fn mark_all(numbers: &[u32], marks: &mut [u8])
     requires { ⌜ Below (now numbers) (length (now marks)) ⌝ }
     ensures { λ _. ⌜ now (marks .exit) ≡ marked (now (numbers .entry)) (now (marks .entry)) ⌝ }
 {

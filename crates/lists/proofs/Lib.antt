@@ -11,5 +11,6 @@ pub mod Matches
 pub mod Grouped
 pub mod GroupSteps
 pub mod Loops
+pub mod Writes
 pub mod Folds
 pub mod Few

@@ -7,3 +7,4 @@ pub mod Chains
 pub mod Groups
 pub mod GroupSteps
 pub mod Loops
+pub mod Writes

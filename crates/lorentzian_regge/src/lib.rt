@@ -13,6 +13,8 @@ mod signs;
 pub use action::ActionAnswer;
 pub use action::lorentzian_regge_action;
 pub use action::lorentzian_regge_action_built;
+pub use checks::check_lengths;
+pub use checks::check_room;
 pub use deficits::HingeAnswer;
 pub use deficits::lorentzian_deficit_angle;
 pub use deficits::lorentzian_deficit_angle_built;

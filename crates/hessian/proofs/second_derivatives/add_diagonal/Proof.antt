@@ -5,7 +5,8 @@ use lib.ListN.{length-set}
 use borrow.Author.Needs.{needs}
 use Rattle.lists.specs.Lists.{keep, gather, upto}
 use Rattle.lists.specs.Loops.{scatter}
-use Rattle.hessian.specs.Parts.{nineAdds, onDiagonal}
+use Rattle.hessian.specs.Hessian.{nineAdds}
+use Rattle.hessian.specs.Parts.{onDiagonal}
 use Rattle.hessian.proofs.second_derivatives.add_diagonal.Statement.{statement}
 use Rattle.hessian.proofs.second_derivatives.add_diagonal.Tie as tie
 

@@ -3,8 +3,8 @@ use mathlib.Core.Path.{refl}
 use borrow.Author.Needs.{needs}
 use Rattle.lists.specs.Lists.{keep, gather}
 use Rattle.lists.specs.Loops.{scatter}
-use Rattle.hessian.specs.Hessian.{firstAdds}
-use Rattle.hessian.specs.Parts.{nineAdds, onDiagonal, offDiagonal, placed}
+use Rattle.hessian.specs.Hessian.{firstAdds, nineAdds}
+use Rattle.hessian.specs.Parts.{onDiagonal, offDiagonal, placed}
 use Rattle.hessian.proofs.second_derivatives.add_first.Statement.{statement}
 use Rattle.hessian.proofs.second_derivatives.add_first.Tie as tie
 
@@ -12,7 +12,7 @@ abs-area-requires : tie.Need-abs-area-requires
 abs-area-requires c κs = search needs
 
 returns : tie.Need-returns
-unfolding firstAdds onDiagonal offDiagonal placed keep gather scatter
+unfolding firstAdds nineAdds onDiagonal offDiagonal placed keep gather scatter
 returns c = rw (← c .before .abs-area .ensures, c .if1 .taken) (refl, refl)
 
 add-diagonal-requires : tie.Need-add-diagonal-requires

@@ -4,7 +4,8 @@ use native.Mathlib.Omega.{arith}
 use borrow.Author.Needs.{needs}
 use Rattle.lists.specs.Lists.{gather}
 use Rattle.lists.specs.Loops.{scatter}
-use Rattle.hessian.specs.Parts.{placed, slopeRow}
+use Rattle.hessian.specs.Hessian.{slopeRow}
+use Rattle.hessian.specs.Parts.{placed}
 use Rattle.hessian.proofs.Placing.{row-absent}
 use Rattle.hessian.proofs.second_derivatives.add_slope.Statement.{statement}
 use Rattle.hessian.proofs.second_derivatives.add_slope.Tie as tie

@@ -10,7 +10,8 @@ use Rattle.floats.specs.Ops.{_⊕_, _⊗_}
 use Rattle.lists.specs.Lists.{gather, upto}
 use Rattle.lists.specs.Loops.{scatter}
 use Rattle.lists.proofs.Loops.{scatter-turn}
-use Rattle.hessian.specs.Parts.{placed, slopeRow, slopeRows}
+use Rattle.hessian.specs.Hessian.{slopeRow}
+use Rattle.hessian.specs.Parts.{placed, slopeRows}
 use Rattle.hessian.proofs.Placing.{placed-gather}
 use Rattle.hessian.proofs.second_derivatives.add_slopes.Statement.{statement}
 use Rattle.hessian.proofs.second_derivatives.add_slopes.Tie as tie

@@ -5,8 +5,8 @@ use lib.ListN.{getD}
 use borrow.Author.Needs.{needs}
 use Rattle.floats.specs.Ops.{_⊗_}
 use Rattle.lists.specs.Lists.{keep, gather, upto}
-use Rattle.hessian.specs.Hessian.{areaSecond}
-use Rattle.hessian.specs.Parts.{placedIn, placed, nineAdds, offDiagonal, before}
+use Rattle.hessian.specs.Hessian.{areaSecond, nineAdds}
+use Rattle.hessian.specs.Parts.{placedIn, placed, offDiagonal, before}
 use Rattle.hessian.proofs.Placing.{six-scatters}
 use Rattle.hessian.proofs.second_derivatives.put_others.Statement.{statement}
 use Rattle.hessian.proofs.second_derivatives.put_others.Tie as tie

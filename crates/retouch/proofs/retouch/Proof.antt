@@ -1,0 +1,82 @@
+-- `retouch::retouch` meets its contract. Assumes nothing.
+use mathlib.Core.Path.{refl, sym, _∙_}
+use lib.ListN.{length}
+use borrow.Author.Tests.{not-true, not-false}
+use borrow.Author.Needs.{needs}
+use Rattle.complex.specs.Builder.{lists}
+use Rattle.complex.proofs.Comparisons.{noted-of}
+use Rattle.lorentzian_regge.specs.Calls.{lengthsCheckOf, roomCheckOf, shortTable}
+use Rattle.lorentzian_regge.proofs.BuiltCalls.{not-built, others-decide}
+use Rattle.retouch.specs.Retouch.{edgeCheckOf}
+use Rattle.retouch.proofs.retouch.Statement.{statement}
+use Rattle.retouch.proofs.retouch.Tie as tie
+
+slice-aggregate-is-built-noting : tie.Need-slice-aggregate-is-built-noting
+slice-aggregate-is-built-noting c = search needs
+
+slice-aggregate-is-built-noting-2 : tie.Need-slice-aggregate-is-built-noting-2
+slice-aggregate-is-built-noting-2 c = search needs
+
+is-built-noting-requires : tie.Need-is-built-noting-requires
+is-built-noting-requires c κs = search needs
+
+returns : tie.Need-returns
+returns c =
+    let a = c .before .before .before .before .before .before .before .before .before .before .before .before .before .before .before .before .before .before .before .args in
+    record {
+      answered =
+          sym (not-built (a .counts) (lists (a .pents .now) (a .edges .now) (a .triangles .now) (a .tets .now) (a .tri-to-pents-items .now) (a .tri-to-pents-starts .now) (a .edge-to-tris-items .now) (a .edge-to-tris-starts .now) (a .edge-to-pents-items .now) (a .edge-to-pents-starts .now)) (lengthsCheckOf (a .counts) (length (a .sq-lengths .now)) (edgeCheckOf (a .counts) (a .edge .0) (roomCheckOf (shortTable (a .counts) (length (a .deficits .now)) (length (a .kinds .now)))))) (sym (c .before .before .before .is-built-noting .ensures .0) ∙ not-true (c .before .before .before .is-built-noting .result) (c .if1 .taken)));
+      lengths = refl;
+      deficits = refl;
+      kinds = refl;
+    }
+
+slice-aggregate-retouch-built : tie.Need-slice-aggregate-retouch-built
+slice-aggregate-retouch-built c = search needs
+
+slice-aggregate-retouch-built-2 : tie.Need-slice-aggregate-retouch-built-2
+slice-aggregate-retouch-built-2 c = search needs
+
+retouch-built-requires : tie.Need-retouch-built-requires
+retouch-built-requires c κs =
+    let h = not-false (c .before .before .before .before .before .before .before .before .is-built-noting .result) (c .before .before .before .before .before .if1 .left) in
+    record { built = sym (c .before .before .before .before .before .before .before .before .is-built-noting .ensures .0) ∙ h; noted = noted-of (c .before .before .before .before .before .before .before .before .is-built-noting .ensures .1) h }
+
+same-length : tie.Need-same-length
+same-length c = search needs
+
+same-length-2 : tie.Need-same-length-2
+same-length-2 c = search needs
+
+same-length-3 : tie.Need-same-length-3
+same-length-3 c = search needs
+
+returns-2 : tie.Need-returns-2
+returns-2 c =
+    let a = c .before .before .before .before .before .before .before .before .before .before .before .before .before .before .before .before .before .before .before .before .before .before .before .before .before .before .before .before .before .before .before .args in
+    let h = not-false (c .before .before .before .before .before .before .before .before .before .before .before .before .before .before .before .is-built-noting .result) (c .before .before .before .before .before .before .before .before .before .before .before .before .if1 .left) in
+    let t = c .before .before .before .before .before .before .retouch-built .ensures in
+    record {
+      answered =
+          t .answered
+          ∙ sym (others-decide (a .counts) (lists (a .pents .now) (a .edges .now) (a .triangles .now) (a .tets .now) (a .tri-to-pents-items .now) (a .tri-to-pents-starts .now) (a .edge-to-tris-items .now) (a .edge-to-tris-starts .now) (a .edge-to-pents-items .now) (a .edge-to-pents-starts .now)) (lengthsCheckOf (a .counts) (length (a .sq-lengths .now)) (edgeCheckOf (a .counts) (a .edge .0) (roomCheckOf (shortTable (a .counts) (length (a .deficits .now)) (length (a .kinds .now)))))) (sym (c .before .before .before .before .before .before .before .before .before .before .before .before .before .before .before .is-built-noting .ensures .0) ∙ h));
+      lengths = t .lengths;
+      deficits = t .deficits;
+      kinds = t .kinds;
+    }
+
+pub retouch-spec : {M : Type 1} → statement M
+retouch-spec =
+    tie.close
+    (tie.spec
+    slice-aggregate-is-built-noting
+    slice-aggregate-is-built-noting-2
+    is-built-noting-requires
+    returns
+    slice-aggregate-retouch-built
+    slice-aggregate-retouch-built-2
+    retouch-built-requires
+    same-length
+    same-length-2
+    same-length-3
+    returns-2)
