@@ -3,3 +3,4 @@ pub mod Complexes
 pub mod Lattices
 pub mod Hinges
 pub mod Local
+pub mod Retouching

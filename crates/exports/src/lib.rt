@@ -1,6 +1,7 @@
 // The library's functions for C and Rust to call, on numbers and slices alone.
 mod local;
 mod regge;
+mod retouching;
 
 use complex::Counts;
 use complex::check_built;

@@ -1,14 +1,18 @@
 -- What loops that write places leave: the value at each of those places, and what was there at the others. Assumes nothing.
-use Prim.Native.Nat.{ℕ, _+_, _<_, _≤_}
+use Prim.Native.Nat.{ℕ, zero, suc, _+_, _<_, _≤_}
 use mathlib.Core.Bool.{Bool}
 use mathlib.Core.Logic.{_⊎_, inl, inr, ⊎-elim}
 use mathlib.Core.List.{List, [], _∷_, _++_, map, List·Memᴰ, List·Memᴰ·head, List·Memᴰ·tail, List·Memᴰ·cases-cons, List·Memᴰ·not-nil}
 use mathlib.Core.Path.{_≡_, refl, sym, ap, _∙_}
 use native.Mathlib.Numerals.{add-one}
-use lib.ListN.{length, getD, set, take, length-set}
+use native.Mathlib.Omega.{arith}
+use lib.ListN.{length, getD, set, take, drop, length-set}
 use lib.Seq.{getD-set-same, getD-set-other, lt-length-set, take-suc}
+use Rattle.lists.specs.Lists.{upto}
+use Rattle.lists.specs.Rows.{over}
 use Rattle.lists.specs.Writes.{writes}
 use Rattle.lists.proofs.Tests.{Says, pass, fail, eqb-says}
+use Rattle.lists.proofs.Rows.{map-turn, map-done}
 
 module _ {A : Type 0} (f : ℕ → A) where
   -- writing keeps the length
@@ -54,3 +58,13 @@ pub writes-same : {A : Type 0} (f g : ℕ → A) (ts : List ℕ) (xs : List A) �
 unfolding writes
 writes-same f g [] xs e = refl
 writes-same f g (t ∷ ts) xs e = ap (λ y. writes f ts (set xs t y)) (e t (List·Memᴰ·head refl)) ∙ writes-same f g ts (set xs t (g t)) (λ u m. e u (List·Memᴰ·tail m))
+
+-- a rule written at the first n places, and the others as they were
+writes-front : {A : Type 0} (f : ℕ → A) (n : ℕ) (xs : List A) → n ≤ length xs → writes f (upto n) xs ≡ map f (upto n) ++ drop n xs
+unfolding upto writes
+writes-front f zero xs h = refl
+writes-front f (suc n) xs h = writes-append f (upto n) (n ∷ []) xs ∙ map-turn f xs (writes f (upto n) xs) n h (length-writes f (upto n) xs) (writes-front f n xs (omega arith))
+
+-- they stand over the beginning
+pub writes-upto : {A : Type 0} (f : ℕ → A) (n : ℕ) (xs : List A) → n ≤ length xs → writes f (upto n) xs ≡ over (map f (upto n)) xs
+writes-upto f n xs h = map-done f xs (writes f (upto n) xs) n (writes-front f n xs h)
