@@ -1,4 +1,8 @@
-//! Times our from_pentachorons, lattices, hinges and calls over free edges beside the Rust's on the same inputs and our check_built beside the Rust's deficits or, with the argument `stack`, measures the stack of our calls.
+//! Times our from_pentachorons, lattices, hinges, calls over free edges and retouch beside the Rust's on the same inputs and our check_built beside the Rust's deficits or, with the argument `stack`, measures the stack of our calls.
+#[macro_use]
+#[path = "../oracle/hinges/over.rs"]
+mod over;
+
 mod check;
 mod hinges;
 #[path = "../oracle/hinges/library.rs"]
@@ -9,6 +13,9 @@ mod library;
 mod local;
 #[path = "../oracle/complex/ours.rs"]
 mod ours;
+mod retouch;
+#[path = "../oracle/retouch/library.rs"]
+mod retouch_library;
 mod stack;
 
 use calls::complexes::{MOST_PENTS, scattered};
@@ -124,6 +131,7 @@ fn main() -> ExitCode {
             lattices::times();
             hinges::times();
             local::times();
+            retouch::times();
         }
         ["stack"] => stack::measure(),
         _ => {

@@ -8,7 +8,7 @@ use phyz_regge::complex::SimplicialComplex;
 use phyz_regge::lorentzian_regge::lorentzian_deficit_angles;
 
 /// The lattice's time steps and points an axis.
-const SIZE: (usize, usize) = (5, 4);
+pub const SIZE: (usize, usize) = (5, 4);
 
 /// How far a squared length is moved at most.
 const MOVED: f64 = 0.01;

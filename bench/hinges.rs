@@ -1,4 +1,5 @@
 //! Our deficits, action, gradient and hinge of one triangle, which are checked, beside the Rust's, which aren't, and our length signs.
+use crate::over::Lists;
 use crate::{REPETITIONS, check, hinges_library as library, print_alone, print_heading, print_times, random, timed};
 use calls::checks::Check;
 use calls::lattice::lattice;
@@ -37,7 +38,7 @@ impl Hinges {
     }
 
     /// The counts, the lists and the lengths as they are lent.
-    fn lent(&self) -> (*const usize, library::Lists, library::Lengths) {
+    fn lent(&self) -> (*const usize, Lists, library::Lengths) {
         let lists = std::array::from_fn(|list| (self.check.lists[list].as_ptr(), self.check.lengths[list]));
         (self.check.counts.as_ptr(), lists, (self.lengths.as_ptr(), self.lengths.len()))
     }

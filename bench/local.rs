@@ -1,5 +1,6 @@
 //! Our deficits, gradient and Hessian over free edges, which are checked, beside the Rust's, which aren't.
 use crate::hinges::built;
+use crate::over::Lists;
 use crate::{REPETITIONS, check, hinges_library as library, print_heading, print_times, timed};
 use calls::checks::Check;
 use calls::complexes::shuffle;
@@ -40,7 +41,7 @@ impl Local {
     }
 
     /// The counts, the lists and the lengths as they are lent, and the free edges.
-    fn lent(&self) -> ((*const usize, library::Lists, library::Lengths), (*const u32, usize)) {
+    fn lent(&self) -> ((*const usize, Lists, library::Lengths), (*const u32, usize)) {
         let lists = std::array::from_fn(|list| (self.check.lists[list].as_ptr(), self.check.lengths[list]));
         let lengths = (self.lengths.as_ptr(), self.lengths.len());
         ((self.check.counts.as_ptr(), lists, lengths), (self.free.as_ptr(), self.free.len()))

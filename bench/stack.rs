@@ -2,6 +2,7 @@
 use crate::hinges::{self, Hinges};
 use crate::lattices::{self, Edges, Listing, SIZE};
 use crate::local::{Local, some_edges};
+use crate::retouch::Retouch;
 use crate::{Prepared, check, random};
 use calls::Complex;
 use calls::complexes::MOST_PENTS;
@@ -163,6 +164,32 @@ fn measure_all_local() {
     });
 }
 
+/// Measures a retouch of a complex, changed by a function.
+fn measure_retouch(name: &str, complex: &Complex, change: fn(&mut Retouch)) {
+    let complex = hinges::built(complex);
+    let mut retouch = Retouch::new(&complex, vec![1.0; complex.edges.len()]);
+    change(&mut retouch);
+    measure_one(&format!("retouch, {name}"), move || retouch.make(0.5));
+}
+
+/// Measures retouches, answered ones and refused ones.
+fn measure_all_retouches() {
+    let lattice = lattice(SIZE.0, SIZE.1);
+    measure_retouch("lattice 5, 4", &lattice, |_| ());
+    measure_retouch("8192 pents, 4096 vertices", &random(4_096), |_| ());
+    measure_retouch("8192 pents, 12 vertices", &random(12), |_| ());
+    measure_retouch("lattice 5, 4, the last start wrong", &lattice, |retouch| {
+        *retouch.check.lists[9].last_mut().unwrap() += 1;
+    });
+    measure_retouch("lattice 5, 4, a length too few", &lattice, |retouch| {
+        retouch.lengths.pop();
+    });
+    measure_retouch("lattice 5, 4, the edge outside", &lattice, |retouch| retouch.edge = u32::MAX);
+    measure_retouch("lattice 5, 4, the table short", &lattice, |retouch| {
+        retouch.kinds.pop();
+    });
+}
+
 /// Measures answered calls, refused ones and one without pentachorons.
 pub fn measure() {
     let (n_vertices, mut outside) = random(4_096);
@@ -182,4 +209,5 @@ pub fn measure() {
     measure_lattices();
     measure_all_hinges();
     measure_all_local();
+    measure_all_retouches();
 }

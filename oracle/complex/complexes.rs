@@ -1,7 +1,8 @@
 //! The vertex counts and pentachorons of calls that are answered.
 use crate::lattice::lattice;
 use crate::random::Random;
-use crate::{Complex, Pent};
+use crate::{Complex, Pent, as_rust};
+use phyz_regge::complex::SimplicialComplex;
 
 /// The most pentachorons of a call.
 pub const MOST_PENTS: usize = 8_192;
@@ -32,6 +33,27 @@ pub const KINDS: [Kind; 14] = [
     Kind { name: "hundreds", count: 200, draw: hundreds },
     Kind { name: "8,192 pentachorons", count: 16, draw: most },
 ];
+
+/// Up to how many pentachorons a complex is small, and the kinds that have small ones.
+const SMALL: usize = 60;
+const SMALL_KINDS: [usize; 11] = [0, 1, 2, 3, 4, 5, 6, 7, 8, 10, 11];
+
+/// The Rust's complex of the number of a kind.
+pub fn built(random: &mut Random, kind: &Kind, number: usize) -> SimplicialComplex {
+    let (n_vertices, pents) = (kind.draw)(random, number);
+    SimplicialComplex::from_pentachorons(n_vertices, &as_rust(&pents))
+}
+
+/// The Rust's complex of the number of any kind, a small one.
+pub fn small(random: &mut Random, number: usize) -> SimplicialComplex {
+    loop {
+        let kind = random.pick(&SMALL_KINDS);
+        let complex = built(random, &KINDS[kind], number);
+        if complex.pents.len() <= SMALL {
+            return complex;
+        }
+    }
+}
 
 /// A way to draw so many pentachorons over so many vertices.
 type Shape = fn(&mut Random, usize, usize) -> Vec<Pent>;

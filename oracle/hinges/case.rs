@@ -1,7 +1,8 @@
 //! What is lent to a call to be read, between guards, and what the Rust answers to it.
 use crate::guarded_complex::GuardedComplex;
 use crate::guards::Guarded;
-use crate::library::{Lengths, Lists};
+use crate::library::Lengths;
+use crate::over::Lists;
 use calls::checks::Check;
 use hinges::expected::{self, Answers};
 use phyz_regge::complex::SimplicialComplex;

@@ -1,4 +1,7 @@
 //! Compares our library's hinges, action, gradients, Hessian and length signs with the altered Rust's answers and their refusals with the table.
+#[macro_use]
+mod over;
+
 mod case;
 mod compare_local;
 #[path = "../complex/guarded_complex.rs"]
@@ -13,7 +16,7 @@ mod tally;
 
 use calls::as_rust;
 use calls::checks::{Check, longer};
-use calls::complexes::{KINDS, Kind};
+use calls::complexes::{KINDS, built, small};
 use calls::damages::{DAMAGES, Damage};
 use calls::lattice::{flat_lengths, lattice};
 use calls::random::Random;
@@ -35,10 +38,6 @@ const ROUNDS: usize = 3;
 /// Up to how many triangles a complex is asked for each of them, and how many of a larger one.
 const EVERY: usize = 40;
 const SOME: usize = 6;
-
-/// Up to how many pentachorons a complex is small, and the kinds that have small ones.
-const SMALL: usize = 60;
-const SMALL_KINDS: [usize; 11] = [0, 1, 2, 3, 4, 5, 6, 7, 8, 10, 11];
 
 /// How many complexes are damaged in every way, and how many get lengths of a wrong number.
 const DAMAGED: usize = 400;
@@ -78,12 +77,6 @@ struct Compare {
     complexes: usize,
     lengths: Vec<(String, usize)>,
     damages: Vec<(String, usize)>,
-}
-
-/// The Rust's complex of the number of a kind.
-fn built(random: &mut Random, kind: &Kind, number: usize) -> SimplicialComplex {
-    let (n_vertices, pents) = (kind.draw)(random, number);
-    SimplicialComplex::from_pentachorons(n_vertices, &as_rust(&pents))
 }
 
 /// A length of an output that must have so many places, mostly enough.
@@ -277,14 +270,8 @@ impl Compare {
 
     /// A small complex of any kind.
     fn small(&mut self, random: &mut Random, number: usize) -> SimplicialComplex {
-        loop {
-            let kind = random.pick(&SMALL_KINDS);
-            let complex = built(random, &KINDS[kind], number);
-            if complex.pents.len() <= SMALL {
-                self.complexes += 1;
-                return complex;
-            }
-        }
+        self.complexes += 1;
+        small(random, number)
     }
 
     /// Built complexes with a wrong number of lengths: one too many, one too few, none, twice as many, any; the right ones stand there too.

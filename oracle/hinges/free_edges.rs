@@ -95,10 +95,15 @@ fn some(random: &mut Random, complex: &SimplicialComplex, most: usize) -> Vec<us
     edges
 }
 
-/// Puts a number that is no edge's at any place: the next ones, the largest, any.
-pub fn put_outside(random: &mut Random, edges: usize, free: &mut Vec<u32>) {
+/// A number that is no edge's: the next ones, the largest, any.
+pub fn outside(random: &mut Random, edges: usize) -> u32 {
     let (count, any) = (edges as u32, random.word() as u32);
-    let number = random.pick(&[count, count, count + 1, count | 1 << 16, u32::MAX, any.max(count)]);
+    random.pick(&[count, count, count + 1, count | 1 << 16, u32::MAX, any.max(count)])
+}
+
+/// Puts such a number at any place.
+pub fn put_outside(random: &mut Random, edges: usize, free: &mut Vec<u32>) {
+    let number = outside(random, edges);
     free.insert(random.below(free.len() + 1), number);
 }
 

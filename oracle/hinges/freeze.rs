@@ -1,11 +1,12 @@
 //! The altered Rust's answers and the table's refusals on a small sample, as the input and the output of a replay.
 use calls::checks::Check;
 use calls::complexes::shuffle;
+use calls::frozen::{self, double, doubles};
 use calls::random::Random;
-use calls::{Pent, as_rust, frozen};
+use calls::{Pent, as_rust};
 use hinges::expected;
 use hinges::facts::Facts;
-use hinges::lengths::{self, AREA_LIMIT};
+use hinges::lengths::{self, AREA_LIMIT, P2};
 use hinges::local::{self, Free, Hinges};
 use hinges::local_facts;
 use hinges::simplexes::step;
@@ -25,9 +26,6 @@ const BEFORE: u64 = 50_000;
 
 /// A byte that is no kind.
 const NO_KIND: u8 = 9;
-
-/// The lengths of P2 in 01-scope.md.
-const P2: [f64; 10] = [-1.0, 1.0, 1.0, 1.0, 0.0, 0.0, 0.0, 2.0, 2.0, 2.0];
 
 /// Lengths with which an area's derivative by the second is an eighth of it.
 const SMALL_DERIVATIVE: [f64; 10] = [1.0, 0.0, 1.0, 1.0, -1.0, 0.5, 2.0, 2.0, 1.5, 3.0];
@@ -58,16 +56,6 @@ struct Line {
 /// The five vertices in 12 bits each.
 fn packed(pent: &Pent) -> usize {
     pent.iter().fold(0, |packed, &vertex| packed << 12 | vertex as usize)
-}
-
-/// A double as text.
-fn double(bits: u64) -> String {
-    if f64::from_bits(bits).is_nan() { "nan".to_string() } else { format!("{bits:016x}") }
-}
-
-/// Doubles as text.
-fn doubles(list: &[u64]) -> String {
-    list.iter().map(|&bits| format!(" {}", double(bits))).collect()
 }
 
 /// A kind as text.

@@ -9,6 +9,9 @@ use phyz_regge::complex::SimplicialComplex;
 /// Where the Rust's gradient no longer skips a triangle.
 pub const AREA_LIMIT: f64 = 1e-30;
 
+/// The lengths of P2 in 01-scope.md.
+pub const P2: [f64; 10] = [-1.0, 1.0, 1.0, 1.0, 0.0, 0.0, 0.0, 2.0, 2.0, 2.0];
+
 /// How often an area at the limit is tried for.
 const TRIES: usize = 60;
 

@@ -8,21 +8,15 @@ use complex::Built;
 use libc::STDIN_FILENO;
 use libc::STDOUT_FILENO;
 use refusals::Refusal;
+use replay::print_end;
+use replay::print_named;
+use replay::print_number;
+use replay::within;
 ghost use Prim.Native.Nat.{_<_, _≤_};
 ghost use lib.ListN.{length};
 ghost use Rattle.io.specs.Counts.{Counts};
 
 // ---- reading
-
-// A number, `most` where it is larger.
-fn within(n: usize, most: usize) -> usize
-    ensures { λ r. ⌜ (r ≤ n) × (r ≤ most) ⌝ }
-{
-    if n < most {
-        return n;
-    }
-    most
-}
 
 // The i-th number of a line.
 fn number_at(line: &[u8], i: usize) -> u64
@@ -118,23 +112,6 @@ fn set(settings: &mut [usize; 17], place: usize, n: usize) {
 }
 
 // ---- printing
-
-// A space and a number.
-fn print_number(n: u64) {
-    io::write_all(STDOUT_FILENO, b" ");
-    io::print_decimal(STDOUT_FILENO, n);
-}
-
-// A name and a number.
-fn print_named(name: &[u8], n: u64) {
-    io::write_all(STDOUT_FILENO, name);
-    print_number(n);
-}
-
-// The end of a line.
-fn print_end() {
-    io::write_all(STDOUT_FILENO, b"\n");
-}
 
 // A line with the counts.
 fn print_counts(counts: complex::Counts) {

@@ -13,6 +13,11 @@ use foliation::Lattice;
 use foliation::Listed;
 use libc::STDIN_FILENO;
 use libc::STDOUT_FILENO;
+use replay::print_double;
+use replay::print_end;
+use replay::print_named;
+use replay::print_number;
+use replay::within;
 ghost use Prim.Native.Nat.{_<_, _≤_};
 ghost use lib.ListN.{length};
 
@@ -25,16 +30,6 @@ const EDGES: usize = 155;
 type List = [u32; 58320];
 
 // ---- reading
-
-// A number, `most` where it is larger.
-fn within(n: usize, most: usize) -> usize
-    ensures { λ r. ⌜ (r ≤ n) × (r ≤ most) ⌝ }
-{
-    if n < most {
-        return n;
-    }
-    most
-}
 
 // The i-th number of a line.
 fn number_at(line: &[u8], i: usize) -> u64
@@ -99,32 +94,6 @@ fn put(list: &mut List, place: usize, n: u32) {
 }
 
 // ---- printing
-
-// A space and a number.
-fn print_number(n: u64) {
-    io::write_all(STDOUT_FILENO, b" ");
-    io::print_decimal(STDOUT_FILENO, n);
-}
-
-// A space and a double: its bits or nan.
-fn print_double(x: f64) {
-    io::write_all(STDOUT_FILENO, b" ");
-    let text = replay::double_text(x);
-    let bytes = text.bytes;
-    let len = text.len;
-    io::write_all(STDOUT_FILENO, &bytes[..len]);
-}
-
-// A name and a number.
-fn print_named(name: &[u8], n: u64) {
-    io::write_all(STDOUT_FILENO, name);
-    print_number(n);
-}
-
-// The end of a line.
-fn print_end() {
-    io::write_all(STDOUT_FILENO, b"\n");
-}
 
 // The checksum at the end of a line.
 fn print_sum(sum: u64) {

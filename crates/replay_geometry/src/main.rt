@@ -6,6 +6,8 @@ use libc::STDIN_FILENO;
 use libc::STDOUT_FILENO;
 use lorentzian::Dihedral;
 use lorentzian::DihedralAnswer;
+use replay::print_double;
+use replay::print_end;
 ghost use Prim.Native.Nat.{_+_, _<_, _≤_};
 ghost use lib.ListN.{length};
 
@@ -43,18 +45,9 @@ fn lengths_at(text: &[u8], at: usize) -> [f64; 10]
 
 // ---- printing
 
-// A space and a number.
-fn print_number(x: f64) {
-    io::write_all(STDOUT_FILENO, b" ");
-    let text = replay::double_text(x);
-    let bytes = text.bytes;
-    let len = text.len;
-    io::write_all(STDOUT_FILENO, &bytes[..len]);
-}
-
 // The number and the kind of a dihedral.
 fn print_dihedral(d: Dihedral) {
-    print_number(d.value());
+    print_double(d.value());
     if d.kind_number() == 0 {
         io::write_all(STDOUT_FILENO, b" S");
         return;
@@ -62,16 +55,11 @@ fn print_dihedral(d: Dihedral) {
     io::write_all(STDOUT_FILENO, b" T");
 }
 
-// The end of a line.
-fn print_end() {
-    io::write_all(STDOUT_FILENO, b"\n");
-}
-
 // ---- a simplex
 
 // One cofactor of the matrix.
 fn print_cofactor(m: &[[f64; 6]; 6], row: usize, col: usize) {
-    print_number(geometry::cofactor_6x6(m, row, col).value_or(0.0));
+    print_double(geometry::cofactor_6x6(m, row, col).value_or(0.0));
 }
 
 // A row of cofactors.
@@ -89,7 +77,7 @@ fn print_cofactors(s: &[f64; 10]) {
     io::write_all(STDOUT_FILENO, b"cofactors");
     let c = geometry::cm_cofactors(s);
     for k in 0..15usize {
-        print_number(c[k]);
+        print_double(c[k]);
     }
     print_end();
     let m = geometry::cm_matrix_signed(s);
@@ -101,7 +89,7 @@ fn print_cofactors(s: &[f64; 10]) {
 // Ten numbers.
 fn print_gradient(grad: &[f64; 10]) {
     for e in 0..10usize {
-        print_number(grad[e]);
+        print_double(grad[e]);
     }
 }
 
@@ -111,7 +99,7 @@ fn print_triangle(s: &[f64; 10], a: usize, b: usize, c: usize, area: f64) {
     io::print_decimal(STDOUT_FILENO, a as u64);
     io::print_decimal(STDOUT_FILENO, b as u64);
     io::print_decimal(STDOUT_FILENO, c as u64);
-    print_number(area);
+    print_double(area);
     let mut grad = [0.0; 10];
     lorentzian::tri_area_sq_grad_in_pent(s, [a, b, c], &mut grad);
     print_gradient(&grad);
@@ -229,7 +217,7 @@ fn print_derivatives(jac: &[f64; 100], k: usize)
     io::write_all(STDOUT_FILENO, b"jacobian ");
     io::print_decimal(STDOUT_FILENO, k as u64);
     for e in 0..10 {
-        print_number(jac[10 * k + e]);
+        print_double(jac[10 * k + e]);
     }
     print_end();
 }

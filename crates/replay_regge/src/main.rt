@@ -19,6 +19,12 @@ use libc::STDOUT_FILENO;
 use lorentzian::HingeType;
 use lorentzian_regge::Hinge;
 use lorentzian_regge::KindByte;
+use replay::print_double;
+use replay::print_doubles;
+use replay::print_end;
+use replay::print_named;
+use replay::print_number;
+use replay::within;
 ghost use Prim.Native.Nat.{_+_, _<_, _≤_};
 ghost use lib.ListN.{length};
 
@@ -26,16 +32,6 @@ ghost use lib.ListN.{length};
 type List = [u32; 240];
 
 // ---- reading
-
-// A number, `most` where it is larger.
-fn within(n: usize, most: usize) -> usize
-    ensures { λ r. ⌜ (r ≤ n) × (r ≤ most) ⌝ }
-{
-    if n < most {
-        return n;
-    }
-    most
-}
 
 // The i-th number of a line.
 fn number_at(line: &[u8], i: usize) -> u64
@@ -168,32 +164,6 @@ fn put(list: &mut List, place: usize, n: u32) {
 
 // ---- printing
 
-// A space and a number.
-fn print_number(n: u64) {
-    io::write_all(STDOUT_FILENO, b" ");
-    io::print_decimal(STDOUT_FILENO, n);
-}
-
-// A name and a number.
-fn print_named(name: &[u8], n: u64) {
-    io::write_all(STDOUT_FILENO, name);
-    print_number(n);
-}
-
-// The end of a line.
-fn print_end() {
-    io::write_all(STDOUT_FILENO, b"\n");
-}
-
-// A space and a double: its bits or nan.
-fn print_double(x: f64) {
-    io::write_all(STDOUT_FILENO, b" ");
-    let text = replay::double_text(x);
-    let bytes = text.bytes;
-    let len = text.len;
-    io::write_all(STDOUT_FILENO, &bytes[..len]);
-}
-
 // A space and a kind's letter.
 fn print_kind(kind: HingeType) {
     match kind {
@@ -214,14 +184,6 @@ fn print_byte(byte: u8) {
             io::write_all(STDOUT_FILENO, b" -");
         }
     }
-}
-
-// The rest of a line: doubles.
-fn print_doubles(list: &[f64]) {
-    for i in 0..list.len() {
-        print_double(list[i]);
-    }
-    print_end();
 }
 
 // The rest of a line: numbers.

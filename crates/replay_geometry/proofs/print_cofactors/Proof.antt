@@ -28,14 +28,14 @@ cm-cofactors-requires c κs = search needs
 loop-holds : tie.Need-loop-holds Inv-loop μ-loop Inv-loop2 μ-loop2
 loop-holds c = search needs
 
-mul-print-number : tie.Need-mul-print-number Inv-loop μ-loop Inv-loop2 μ-loop2
-mul-print-number c = search needs
+mul-print-double : tie.Need-mul-print-double Inv-loop μ-loop Inv-loop2 μ-loop2
+mul-print-double c = search needs
 
-array-read-print-number : tie.Need-array-read-print-number Inv-loop μ-loop Inv-loop2 μ-loop2
-array-read-print-number c = search needs
+array-read-print-double : tie.Need-array-read-print-double Inv-loop μ-loop Inv-loop2 μ-loop2
+array-read-print-double c = search needs
 
-print-number-requires : tie.Need-print-number-requires Inv-loop μ-loop Inv-loop2 μ-loop2
-print-number-requires c κs = search needs
+print-double-requires : tie.Need-print-double-requires Inv-loop μ-loop Inv-loop2 μ-loop2
+print-double-requires c κs = search needs
 
 add-k : tie.Need-add-k Inv-loop μ-loop Inv-loop2 μ-loop2
 add-k c = search needs
@@ -82,9 +82,9 @@ print-cofactors-spec =
     write-all-requires
     cm-cofactors-requires
     loop-holds
-    mul-print-number
-    array-read-print-number
-    print-number-requires
+    mul-print-double
+    array-read-print-double
+    print-double-requires
     add-k
     loop-less
     loop-again

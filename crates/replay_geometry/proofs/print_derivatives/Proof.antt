@@ -22,20 +22,20 @@ print-decimal-requires c κs = search needs
 loop-holds : tie.Need-loop-holds Inv-loop μ-loop
 loop-holds c = search needs
 
-mul-print-number : tie.Need-mul-print-number Inv-loop μ-loop
-mul-print-number c = search needs
+mul-print-double : tie.Need-mul-print-double Inv-loop μ-loop
+mul-print-double c = search needs
 
-add-print-number : tie.Need-add-print-number Inv-loop μ-loop
-add-print-number c = search needs
+add-print-double : tie.Need-add-print-double Inv-loop μ-loop
+add-print-double c = search needs
 
-mul-print-number-2 : tie.Need-mul-print-number-2 Inv-loop μ-loop
-mul-print-number-2 c = search needs
+mul-print-double-2 : tie.Need-mul-print-double-2 Inv-loop μ-loop
+mul-print-double-2 c = search needs
 
-element-copy-out-print-number : tie.Need-element-copy-out-print-number Inv-loop μ-loop
-element-copy-out-print-number c = search needs
+element-copy-out-print-double : tie.Need-element-copy-out-print-double Inv-loop μ-loop
+element-copy-out-print-double c = search needs
 
-print-number-requires : tie.Need-print-number-requires Inv-loop μ-loop
-print-number-requires c κs = search needs
+print-double-requires : tie.Need-print-double-requires Inv-loop μ-loop
+print-double-requires c κs = search needs
 
 add-e : tie.Need-add-e Inv-loop μ-loop
 add-e c = search needs
@@ -62,11 +62,11 @@ print-derivatives-spec =
     write-all-requires
     print-decimal-requires
     loop-holds
-    mul-print-number
-    add-print-number
-    mul-print-number-2
-    element-copy-out-print-number
-    print-number-requires
+    mul-print-double
+    add-print-double
+    mul-print-double-2
+    element-copy-out-print-double
+    print-double-requires
     add-e
     loop-less
     loop-again

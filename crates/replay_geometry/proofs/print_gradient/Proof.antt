@@ -13,14 +13,14 @@ abbrev μ-loop : tie.MeasureT-loop
 loop-holds : tie.Need-loop-holds Inv-loop μ-loop
 loop-holds c = search needs
 
-mul-print-number : tie.Need-mul-print-number Inv-loop μ-loop
-mul-print-number c = search needs
+mul-print-double : tie.Need-mul-print-double Inv-loop μ-loop
+mul-print-double c = search needs
 
-element-copy-out-print-number : tie.Need-element-copy-out-print-number Inv-loop μ-loop
-element-copy-out-print-number c = search needs
+element-copy-out-print-double : tie.Need-element-copy-out-print-double Inv-loop μ-loop
+element-copy-out-print-double c = search needs
 
-print-number-requires : tie.Need-print-number-requires Inv-loop μ-loop
-print-number-requires c κs = search needs
+print-double-requires : tie.Need-print-double-requires Inv-loop μ-loop
+print-double-requires c κs = search needs
 
 add-e : tie.Need-add-e Inv-loop μ-loop
 add-e c = search needs
@@ -41,9 +41,9 @@ print-gradient-spec =
     Inv-loop
     μ-loop
     loop-holds
-    mul-print-number
-    element-copy-out-print-number
-    print-number-requires
+    mul-print-double
+    element-copy-out-print-double
+    print-double-requires
     add-e
     loop-less
     loop-again

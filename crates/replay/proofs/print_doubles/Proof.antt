@@ -1,9 +1,9 @@
--- `replay_regge::print_doubles` is safe: i counts up to the length of the list. Assumes nothing.
+-- `replay::print_doubles` is safe: i counts up to the length of the list. Assumes nothing.
 use Prim.Native.Nat.{_≤_, _-_}
 use lib.ListN.{length}
 use borrow.Author.Needs.{needs}
-use Rattle.replay_regge.proofs.print_doubles.Statement.{statement}
-use Rattle.replay_regge.proofs.print_doubles.Tie as tie
+use Rattle.replay.proofs.print_doubles.Statement.{statement}
+use Rattle.replay.proofs.print_doubles.Tie as tie
 
 abbrev Inv-loop : tie.InvT-loop
 Inv-loop list i₀ i-end i = (i ≤ i-end) × (i-end ≤ length list)
