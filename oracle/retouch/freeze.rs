@@ -25,9 +25,16 @@ const MOST_RETOUCHES: usize = 12;
 const MOST_ROOM: usize = 100;
 const LENGTH: usize = 240;
 
+/// How many records the replay's other table has.
+const RECORDS: usize = 640;
+
 /// The bits of a deficit and a byte for a kind that aren't worked out first.
 const DEFICIT: u64 = 50_000;
 const KIND: u8 = 100;
+
+/// The kinds of records.
+const SPACELIKE: u8 = 0;
+const TIMELIKE: u8 = 1;
 
 /// The list of pentachorons around edges, which a line may change.
 const EDGE_TO_PENTS: usize = 8;
@@ -54,10 +61,10 @@ struct Line {
     changes: Vec<Change>,
 }
 
-/// What stands in lengths and a table, as text.
-fn shown(lengths: &[f64], table: &Table) -> String {
-    let (lengths, deficits) = (doubles(&bits(lengths)), doubles(&table.deficits));
-    let kinds: String = table.kinds.iter().map(|kind| format!(" {kind}")).collect();
+/// What stands in lengths and in the first places of a table, so many of its deficits and kinds, as text.
+fn shown(lengths: &[f64], table: &Table, rooms: [usize; 2]) -> String {
+    let (lengths, deficits) = (doubles(&bits(lengths)), doubles(&table.deficits[..rooms[0]]));
+    let kinds: String = table.kinds[..rooms[1]].iter().map(|kind| format!(" {kind}")).collect();
     format!("lengths{lengths}\ndeficits{deficits}\nkinds{kinds}\n")
 }
 
@@ -104,30 +111,45 @@ impl Line {
         check
     }
 
-    /// The lines that answer it; what occurs in it is counted.
-    fn answer(&self, facts: &mut Facts) -> String {
-        let accepted = accepted(&self.check(), &self.lengths);
-        let mut table = Table { deficits: vec![DEFICIT; self.rooms[0]], kinds: vec![KIND; self.rooms[1]] };
-        let mut lengths = self.lengths.clone();
-        if let (true, Ok(complex)) = (self.is_worked_out && expected::number(&accepted, 0, &table) == 0, &accepted) {
+    /// The table that the retouches begin with: this one, worked out first if the line says so, with a record that is put there.
+    fn first(&self, accepted: &Result<SimplicialComplex, u32>, mut table: Table, record: Put) -> Table {
+        if let (true, Ok(complex)) = (self.is_worked_out && expected::number(accepted, 0, &table) == 0, accepted) {
             let all: Vec<usize> = (0..complex.triangles.len()).collect();
-            table = expected::left(&table, &all, &expected::anew(complex, &lengths));
+            table = expected::left(&table, &all, &expected::anew(complex, &self.lengths));
         }
-        if let Some(deficit) = table.deficits.get_mut(self.record.place) {
-            *deficit = self.record.deficit;
+        if let Some(deficit) = table.deficits.get_mut(record.place) {
+            *deficit = record.deficit;
         }
-        if let Some(kind) = table.kinds.get_mut(self.record.place) {
-            *kind = self.record.kind;
+        if let Some(kind) = table.kinds.get_mut(record.place) {
+            *kind = record.kind;
         }
+        table
+    }
+
+    /// The lines of its retouches on a table with a record that is put there, each with a name; so many deficits and kinds are shown. What occurs is counted.
+    fn retouches(&self, name: &str, table: Table, record: Put, rooms: [usize; 2], facts: &mut Facts) -> String {
+        let accepted = accepted(&self.check(), &self.lengths);
+        let (mut table, mut lengths) = (self.first(&accepted, table, record), self.lengths.clone());
         let mut lines = String::new();
         for &change in &self.changes {
             let number = expected::number(&accepted, change.edge, &table);
             if let (0, Ok(complex)) = (number, &accepted) {
                 table = answered(complex, change, &mut lengths, &table, facts);
             }
-            lines += &format!("retouch {number}\n{}", shown(&lengths, &table));
+            lines += &format!("{name} {number}\n{}", shown(&lengths, &table, rooms));
         }
         lines
+    }
+
+    /// The lines that answer it, on plain lists and on records, where a byte that is no kind is Spacelike; what occurs on plain lists is counted.
+    fn answer(&self, facts: &mut Facts) -> String {
+        let (rooms, record) = (self.rooms, self.record);
+        let plain = Table { deficits: vec![DEFICIT; rooms[0]], kinds: vec![KIND; rooms[1]] };
+        let records = Table { deficits: vec![DEFICIT; RECORDS], kinds: vec![SPACELIKE; RECORDS] };
+        let kind = if record.kind == TIMELIKE { TIMELIKE } else { SPACELIKE };
+        let other = Put { kind, ..record };
+        self.retouches("retouch", plain, record, rooms, facts)
+            + &self.retouches("records", records, other, [rooms[0]; 2], &mut Facts::default())
     }
 }
 
