@@ -2,7 +2,7 @@
 use mathlib.Core.Path.{refl, _∙_}
 use Prim.Native.Nat.{ℕ}
 use mathlib.Core.List.{List, [], _∷_, map}
-use lib.ListN.{length, length-map}
+use lib.ListN.{length-map}
 use mir.Val.{Val, vstruct, ofList}
 use denote.RattleType.{RattleType}
 use denote.Shadow.{shadow}
@@ -12,7 +12,6 @@ use Rattle.refusals.specs.declared.Outcome.{Outcome}
 use Rattle.refusals.proofs.Outcome as TO
 use Rattle.hinges.specs.declared.hinge.Hinge.{Hinge}
 use Rattle.hinges.proofs.hinge.Hinge as T
-use Rattle.hinge_table.specs.declared.TableAnswer.{TableAnswer}
 use Rattle.hinge_table.proofs.TableAnswer as TT
 
 -- the type of a record as a field, and as a type of its own
@@ -26,6 +25,7 @@ each-inner [] (u ∷ us) s = s
 each-inner (h ∷ hs) [] s = s
 each-inner (h ∷ hs) (u ∷ us) s = (s .0, each-inner hs us (s .1))
 
+-- an array of records is the same in either form
 array-inner : (n : ℕ) (hs : List Hinge) (vs : List Val) → Is (Array T.the-row n) hs vs → Is (Array inner n) (map (T.the-type .to) hs) vs
 array-inner n hs vs is = (is .0, ((is .1 .0 .0, length-map hs (T.the-type .to) ∙ is .1 .0 .1), each-inner hs (is .0) (is .1 .1)))
 

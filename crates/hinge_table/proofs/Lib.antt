@@ -1,4 +1,4 @@
--- The laws of calls on a table of records, and of walks by hand over lent slices. Assumes nothing.
+-- Laws on tables of records, for proofs here and in the crates above; and what walks by hand over lent slices use.
 pub mod Again
 pub mod Answer
 pub mod Calls
@@ -6,6 +6,7 @@ pub mod Counted
 pub mod Frozen
 pub mod LentArray
 pub mod Meet
+pub mod Scratch
 pub mod TableDemand3
 pub mod TableSteps
 pub mod Walks

@@ -16,7 +16,7 @@ use base.Fml.{Lft, Share, GName, ftrue, fat, flft, flent}
 use prog.Memory.{Memory}
 use prog.Routine.{Routine}
 use prog.Wp.{Heap, Calls, Loops, WpFn, Tables}
-use ghost.Atoms.{Atoms, sem}
+use ghost.Atoms.{Atoms}
 use contract.Lifetimes.{Lfts, Shares}
 use contract.Monad.{Fun}
 use contract.Running.{givenOf, tables, tablesOf}
@@ -32,7 +32,7 @@ use denote.Floats.{float-vals, float-tells, float-makes, float-lawful}
 use denote.Builtin.{u32, f64}
 use denote.Array.{Array, array-vals, array-tells, array-lawful}
 use denote.Ref.{RefT, now}
-use denote.Slice.{sliceVal, MutSlice, ShrSlice, Room, finally, slice-vals, mut-slice-tells, shr-slice-tells}
+use denote.Slice.{sliceVal, MutSlice, Room, finally, slice-vals, mut-slice-tells, shr-slice-tells}
 use denote.Lend.{Held}
 use denote.Index.{row}
 use denote.Steps.{only, owned, peeks, nothing}
@@ -64,9 +64,9 @@ use Rattle.hinges.proofs.hinge.Hinge.Laws as T′
 use Rattle.lorentzian_regge.specs.Calls.{builtCheckOf, lengthsCheckOf, roomCheckOf}
 use Rattle.retouch.specs.Retouch.{edgeCheckOf}
 use Rattle.hinge_table.specs.declared.TableAnswer.{TableAnswer}
-use Rattle.hinge_table.specs.Table.{shortRecords, TableWorked, TableRetouched}
+use Rattle.hinge_table.specs.Table.{shortRecords, TableRetouched}
 use Rattle.hinge_table.proofs.Answer.{answer-is}
-use Rattle.hinge_table.proofs.Calls.{Ten, ten-lists, ten-faces, OwnTen, R, RC, value}
+use Rattle.hinge_table.proofs.Calls.{Ten, ten-of, ten-lists, ten-faces, OwnTen, R, RC, value}
 use Rattle.hinge_table.proofs.LentArray.{array-in, array-out, lends-out, lent-home}
 use Rattle.hinge_table.proofs.TableAnswer as TT
 use Rattle.hinge_table.proofs.TableAnswer.Laws as TT′
@@ -81,15 +81,20 @@ use Rattle.hinge_table.proofs.retouch_array.Statement as stated
 use Rattle.hinge_table.proofs.retouch_array.Code as code
 
 -- ---- the types of edge numbers, outcomes and answers, and a record's machine value
+
+-- the type of edge numbers
 abbrev RE : RattleType
 RE = TE.the-row
 
+-- the type of outcomes
 abbrev RO : RattleType
 RO = TO.the-row
 
+-- the type of answers with a table
 abbrev RT : RattleType
 RT = TT.the-row
 
+-- the machine value of a record
 abbrev vals : Hinge → List Val
 vals = LL.vals T.the-type T′.the-laws
 
@@ -98,15 +103,20 @@ abbrev τ : ℕ → Ty
 τ k = tyIn (code.function .locals) k
 
 -- ---- the parameters: their types, their machine values, and what is had of them at exit
+
+-- their types
 abbrev params : Lfts 2 → List RattleType
 params κs = typesAt (retouch-array.signature .params) κs
 
+-- their machine values
 abbrev spelt : (κs : Lfts 2) → Spells (params κs)
 spelt κs = (LL.vals TC.the-type TC′.the-laws, (slice-vals, (slice-vals, (slice-vals, (slice-vals, (slice-vals, (slice-vals, (slice-vals, (slice-vals, (slice-vals, (slice-vals, (slice-vals, (LL.vals TE.the-type TE′.the-laws, (float-vals binary64, (array-vals vals, tt)))))))))))))))
 
+-- a parameter's relation tells its machine value
 told : (κs : Lfts 2) → Tellss (params κs) (Ises (params κs)) (spelt κs)
 told κs = (LL.tells TC.the-type TC′.the-laws, (shr-slice-tells (named 0) (κs .0) u32, (shr-slice-tells (named 0) (κs .0) u32, (shr-slice-tells (named 0) (κs .0) u32, (shr-slice-tells (named 0) (κs .0) u32, (shr-slice-tells (named 0) (κs .0) u32, (shr-slice-tells (named 0) (κs .0) u32, (shr-slice-tells (named 0) (κs .0) u32, (shr-slice-tells (named 0) (κs .0) u32, (shr-slice-tells (named 0) (κs .0) u32, (shr-slice-tells (named 0) (κs .0) u32, (mut-slice-tells (named 1) (κs .1 .0) f64, (LL.tells TE.the-type TE′.the-laws, (float-tells binary64, (array-tells R vals (LL.tells T.the-type T′.the-laws) 640, tt)))))))))))))))
 
+-- what is had of them at exit
 abbrev stayed : Stays (retouch-array.ended .signature .params) (retouch-array.ended .kept)
 stayed = (stay-dropped (plain (λ _. RC)) yes, (stay-dropped (shrSliceOf (0 ∷ []) tt (plain (λ _. u32))) yes, (stay-dropped (shrSliceOf (0 ∷ []) tt (plain (λ _. u32))) yes, (stay-dropped (shrSliceOf (0 ∷ []) tt (plain (λ _. u32))) yes, (stay-dropped (shrSliceOf (0 ∷ []) tt (plain (λ _. u32))) yes, (stay-dropped (shrSliceOf (0 ∷ []) tt (plain (λ _. u32))) yes, (stay-dropped (shrSliceOf (0 ∷ []) tt (plain (λ _. u32))) yes, (stay-dropped (shrSliceOf (0 ∷ []) tt (plain (λ _. u32))) yes, (stay-dropped (shrSliceOf (0 ∷ []) tt (plain (λ _. u32))) yes, (stay-dropped (shrSliceOf (0 ∷ []) tt (plain (λ _. u32))) yes, (stay-dropped (shrSliceOf (0 ∷ []) tt (plain (λ _. u32))) yes, (gave-slice (1 ∷ []) tt (plain (λ _. f64)), (stay-dropped (plain (λ _. RE)) yes, (stay-dropped (plain (λ _. f64)) yes, (stay-dropped (arrayOf (plain (λ _. R)) 640) yes, tt)))))))))))))))
 
@@ -116,54 +126,73 @@ Retouch 𝓤 H A mem run = tripleOf 𝓤 H A retouch.signature (retouch.spec �
 
 module _ {M : Type 1} (𝓤 : URA M) (H : Heap 𝓤) (A : Atoms 𝓤) (W : Given 𝓤 H A) (at-mem : Memory → SProp 𝓤) (run : Routine → Fun 𝓤)
     (κs : Lfts 2) (qs : Shares 2) (a : Denots (params κs)) (are : Are (params κs) (Ises (params κs)) a (valss (params κs) (spelt κs) a)) where
+  -- the lifetime of the lists
   abbrev κ : Lft
   κ = κs .0
 
+  -- the share of the lists' lifetime
   abbrev q : Share
   q = qs .0
 
+  -- the lifetime of the lengths
   abbrev κ₁ : Lft
   κ₁ = κs .1 .0
 
+  -- the share of the lengths' lifetime
   abbrev q₁ : Share
   q₁ = qs .1 .0
 
   -- ---- the parameters
+
+  -- the counts
   abbrev c : Counts
   c = a .0
 
+  -- the ten lists
   abbrev t : Ten
-  t = record { pents = a .1 .0; edges = a .1 .1 .0; triangles = a .1 .1 .1 .0; tets = a .1 .1 .1 .1 .0; items = a .1 .1 .1 .1 .1 .0; starts = a .1 .1 .1 .1 .1 .1 .0; et-items = a .1 .1 .1 .1 .1 .1 .1 .0; et-starts = a .1 .1 .1 .1 .1 .1 .1 .1 .0; ep-items = a .1 .1 .1 .1 .1 .1 .1 .1 .1 .0; ep-starts = a .1 .1 .1 .1 .1 .1 .1 .1 .1 .1 .0 }
+  t = ten-of (a .1)
 
+  -- the lengths
   abbrev lens : RefT (List Float)
   lens = a .1 .1 .1 .1 .1 .1 .1 .1 .1 .1 .1 .0
 
+  -- the edge
   abbrev edge : EdgeNumber
   edge = a .1 .1 .1 .1 .1 .1 .1 .1 .1 .1 .1 .1 .0
 
+  -- the new length
   abbrev x : Float
   x = a .1 .1 .1 .1 .1 .1 .1 .1 .1 .1 .1 .1 .1 .0
 
+  -- the table
   abbrev xs : List Hinge
   xs = a .1 .1 .1 .1 .1 .1 .1 .1 .1 .1 .1 .1 .1 .1 .0
 
+  -- the machine values
   abbrev at : Valss (params κs)
   at = valss (params κs) (spelt κs) a
 
   -- ---- what is known of them
+
+  -- the array's machine value
   abbrev is-xs : Is (Array R 640) xs (at .1 .1 .1 .1 .1 .1 .1 .1 .1 .1 .1 .1 .1 .1 .0)
   is-xs = are .1 .1 .1 .1 .1 .1 .1 .1 .1 .1 .1 .1 .1 .1 .0
 
+  -- there are 640 records
   abbrev many : length xs ≡ 640
   many = is-xs .1 .0 .1
 
   -- ---- what the checks say of a table of n records, and the faces
+
+  -- what the checks say
   abbrev checks : ℕ → Outcome
   checks n = builtCheckOf c (ten-lists t) (lengthsCheckOf c (length (lens .now)) (edgeCheckOf c (edge .0) (roomCheckOf (shortRecords c n))))
 
+  -- the faces
   abbrev F : FaceLists
   F = ten-faces c t
 
+  -- what holds at the return
   abbrev Post : Val → SProp 𝓤
   Post = walkOf 𝓤 H A retouch-array.ended stayed (retouch-array.clauses 𝓤 H A at-mem run) .post ((κs, qs, tt, a, at), tt)
 
@@ -178,9 +207,11 @@ module _ {M : Type 1} (𝓤 : URA M) (H : Heap 𝓤) (A : Atoms 𝓤) (W : Given
 
   -- ---- the call, with the array lent for a lifetime ν: what it asks, and what it says
   module _ (ν : ℕ) (y : RefT (List Hinge)) where
+    -- what it is passed
     abbrev to-call : Retouch 𝓤 H A at-mem run .Ghost
     to-call = (((κ, (κ₁, (ν ∷ [], tt))), (q, (q₁, (fullShare, tt))), tt, (c, (t .pents, (t .edges, (t .triangles, (t .tets, (t .items, (t .starts, (t .et-items, (t .et-starts, (t .ep-items, (t .ep-starts, (lens, (edge, (x, (y, tt))))))))))))))), (at .0, (value (t .pents) ∷ [], (value (t .edges) ∷ [], (value (t .triangles) ∷ [], (value (t .tets) ∷ [], (value (t .items) ∷ [], (value (t .starts) ∷ [], (value (t .et-items) ∷ [], (value (t .et-starts) ∷ [], (value (t .ep-items) ∷ [], (value (t .ep-starts) ∷ [], (value lens ∷ [], (at .1 .1 .1 .1 .1 .1 .1 .1 .1 .1 .1 .1 .0, (at .1 .1 .1 .1 .1 .1 .1 .1 .1 .1 .1 .1 .1 .0, (value y ∷ [], tt)))))))))))))))), tt)
 
+    -- it asks the tokens and the slices
     asks : ent 𝓤 (⋆ 𝓤 H A (‵ (flft κ q) ∷ ‵ (flft κ₁ q₁) ∷ ‵ (flft (ν ∷ []) fullShare) ∷ ‵ (OwnTen κ t) ∷ ‵ (MutSlice (named 1) κ₁ f64 .own lens (value lens ∷ [])) ∷ ‵ (MutSlice (named 2) (ν ∷ []) R .own y (value y ∷ [])) ∷ [])) (Retouch 𝓤 H A at-mem run .pre to-call)
     asks =
         qed W (‵ (flft κ q) ∷ ‵ (flft κ₁ q₁) ∷ ‵ (flft (ν ∷ []) fullShare) ∷ ‵ (OwnTen κ t) ∷ ‵ (MutSlice (named 1) κ₁ f64 .own lens (value lens ∷ [])) ∷ ‵ (MutSlice (named 2) (ν ∷ []) R .own y (value y ∷ [])) ∷ []) ∵
@@ -189,12 +220,15 @@ module _ {M : Type 1} (𝓤 : URA M) (H : Heap 𝓤) (A : Atoms 𝓤) (W : Given
         nothing ! $ owned ! f64 (Is f64) (float-makes 𝓤 H A W binary64) x _ (are .1 .1 .1 .1 .1 .1 .1 .1 .1 .1 .1 .1 .1 .0) $ owned ! RE (Is RE) ((LL.makes TE.the-type TE′.the-plain) 𝓤 H A) edge _ (are .1 .1 .1 .1 .1 .1 .1 .1 .1 .1 .1 .1 .0) $ owned ! RC (Is RC) ((LL.makes TC.the-type TC′.the-plain) 𝓤 H A) c _ (are .0) $
         move ! (16 ∷ 3 ∷ []) $ fjoin ! $ move ! (3 ∷ 0 ∷ []) $ fjoin ! $ move ! (2 ∷ 0 ∷ []) $ fjoin ! $ move ! (13 ∷ 0 ∷ []) $ fjoin ! $ move ! (2 ∷ 0 ∷ []) $ fjoin ! $ move ! (2 ∷ 0 ∷ []) $ fjoin ! $ move ! (2 ∷ 0 ∷ []) $ fjoin ! $ move ! (2 ∷ 0 ∷ []) $ fjoin ! $ move ! (2 ∷ 0 ∷ []) $ fjoin ! $ move ! (2 ∷ 0 ∷ []) $ fjoin ! $ move ! (2 ∷ 0 ∷ []) $ fjoin ! $ move ! (2 ∷ 0 ∷ []) $ fjoin ! $ move ! (2 ∷ 0 ∷ []) $ fjoin ! $ move ! (2 ∷ 0 ∷ []) $ fjoin ! $ move ! (1 ∷ 0 ∷ []) $ fjoin ! $ move ! (1 ∷ 0 ∷ []) $ join ! $ frame ! $ done !
 
+    -- what its outcome tells of the lists that it leaves
     abbrev Told : Outcome → List Float × List Hinge → Type 0
     Told o ws = TableRetouched (checks (length (y .now))) F (lens .now) (edge .0) x (y .now) o (ws .0) (ws .1) × ((length (ws .0) ≡ length (lens .now)) × (length (ws .1) ≡ length (y .now)))
 
+    -- what is had then
     abbrev Left : Outcome → List Float × List Hinge → SProp 𝓤
     Left o ws = guard 𝓤 (Told o ws) (⋆ 𝓤 H A (‵ (finally f64 (lens .name) (ws .0)) ∷ ‵ (finally R (y .name) (ws .1)) ∷ []))
 
+    -- it says this for some lists
     tells : (o : Outcome) → ent 𝓤 (ensured 𝓤 H A retouch.ended (retouch.clauses 𝓤 H A at-mem run) (κ, (κ₁, (ν ∷ [], tt))) (c, (t .pents, (t .edges, (t .triangles, (t .tets, (t .items, (t .starts, (t .et-items, (t .et-starts, (t .ep-items, (t .ep-starts, (lens, (edge, (x, (y, tt))))))))))))))) tt o) (ex 𝓤 (Left o))
     tells o = exE 𝓤 _ (λ ws. needs 𝓤 (TableRetouched (checks (length (y .now))) F (lens .now) (edge .0) x (y .now) o (ws .1 .1 .1 .1 .1 .1 .1 .1 .1 .1 .1 .0) (ws .1 .1 .1 .1 .1 .1 .1 .1 .1 .1 .1 .1 .1 .1 .0)) _ (λ said.
         qed W (‵ (lasts retouch.ended (κ, (κ₁, (ν ∷ [], tt))) (c, (t .pents, (t .edges, (t .triangles, (t .tets, (t .items, (t .starts, (t .et-items, (t .et-starts, (t .ep-items, (t .ep-starts, (lens, (edge, (x, (y, tt))))))))))))))) ws) ∷ []) ∵
@@ -209,16 +243,20 @@ module _ {M : Type 1} (𝓤 : URA M) (H : Heap 𝓤) (A : Atoms 𝓤) (W : Given
   abbrev lent-at : ℕ → GName → RefT (List Hinge)
   lent-at b δ = record { ptr = (b, 0); name = δ; now = xs }
 
+  -- there is room for the records
   room : Room R (length xs)
   room = subst (Room R) (sym many) (lit< tt, lit< tt)
 
   module _ (𝓣 : Tables 𝓤 H) (known : Triple 𝓤 (𝓣 .C #retouch) (Retouch 𝓤 H A at-mem run)) where
+    -- what calls mean
     abbrev C : Calls 𝓤 H
     C = 𝓣 .C
 
+    -- what loops mean
     abbrev Λ : Loops 𝓤 H
     Λ = 𝓣 .Λ
 
+    -- calls keep what is framed
     fm : FmC 𝓤 H (W .laws) C
     fm = fmOf 𝓤 H (W .laws) 𝓣
 
@@ -256,16 +294,19 @@ module _ {M : Type 1} (𝓤 : URA M) (H : Heap 𝓤) (A : Atoms 𝓤) (W : Given
         keep ! (2 ∷ 1 ∷ 0 ∷ []) $ by ! (exits (ws .0) (record { outcome = o; table = (ws .1) }) (vstruct (ofList (u ∷ v ∷ []))) (subst (λ (m : ℕ). TableRetouched (checks m) F (lens .now) (edge .0) x xs o (ws .0) (ws .1)) many (told .0)) (told .1 .0) (answer-is o (ws .1) u v iso isv))))))))))))))))))))))))))))))))))
 
 module _ {M : Type 1} (𝓤 : URA M) (H : Heap 𝓤) (A : Atoms 𝓤) (W : Given 𝓤 H A) (mem : Memory → SProp 𝓤) (run : Routine → Fun 𝓤) (𝓣 : Tables 𝓤 H) where
+  -- the walk, at all lifetimes and arguments
   retouch-array-walks : Triple 𝓤 (𝓣 .C #retouch) (Retouch 𝓤 H A mem run) → Walks 𝓤 H A retouch-array.ended stayed (WpFn 𝓤 H (𝓣 .C) (𝓣 .Λ) code.function) (retouch-array.clauses 𝓤 H A mem run)
   retouch-array-walks known = walked 𝓤 H A retouch-array.ended stayed (retouch-array.clauses 𝓤 H A mem run) (WpFn 𝓤 H (𝓣 .C) (𝓣 .Λ) code.function) spelt told
       (λ κs qs bounds a g are. via 𝓤 _ (fst∗ 𝓤 (onEntry 𝓤 H A retouch-array.signature κs qs a (valss (params κs) (spelt κs) a)) (retouch-array.clauses 𝓤 H A mem run κs a .requires g)) (walk 𝓤 H A W mem run κs qs a are 𝓣 known))
 
+  -- so the function meets its contract
   retouch-array-meets : Triple 𝓤 (𝓣 .C #retouch) (Retouch 𝓤 H A mem run) → Meets 𝓤 H A retouch-array.signature (WpFn 𝓤 H (𝓣 .C) (𝓣 .Λ) code.function) (retouch-array.spec 𝓤 H A mem run)
   retouch-array-meets known =
       walk-meets 𝓤 H A retouch-array.ended stayed W
       (goes-dropped 𝓤 H A W 2 (plain (λ _. RC)) yes (λ κs x f. refl), (goes-dropped 𝓤 H A W 2 (shrSliceOf (0 ∷ []) tt (plain (λ _. u32))) yes (λ κs x f. refl), (goes-dropped 𝓤 H A W 2 (shrSliceOf (0 ∷ []) tt (plain (λ _. u32))) yes (λ κs x f. refl), (goes-dropped 𝓤 H A W 2 (shrSliceOf (0 ∷ []) tt (plain (λ _. u32))) yes (λ κs x f. refl), (goes-dropped 𝓤 H A W 2 (shrSliceOf (0 ∷ []) tt (plain (λ _. u32))) yes (λ κs x f. refl), (goes-dropped 𝓤 H A W 2 (shrSliceOf (0 ∷ []) tt (plain (λ _. u32))) yes (λ κs x f. refl), (goes-dropped 𝓤 H A W 2 (shrSliceOf (0 ∷ []) tt (plain (λ _. u32))) yes (λ κs x f. refl), (goes-dropped 𝓤 H A W 2 (shrSliceOf (0 ∷ []) tt (plain (λ _. u32))) yes (λ κs x f. refl), (goes-dropped 𝓤 H A W 2 (shrSliceOf (0 ∷ []) tt (plain (λ _. u32))) yes (λ κs x f. refl), (goes-dropped 𝓤 H A W 2 (shrSliceOf (0 ∷ []) tt (plain (λ _. u32))) yes (λ κs x f. refl), (goes-dropped 𝓤 H A W 2 (shrSliceOf (0 ∷ []) tt (plain (λ _. u32))) yes (λ κs x f. refl), (goes-gave-slice 𝓤 H A W 2 1 tt (plain (λ _. f64)), (goes-dropped 𝓤 H A W 2 (plain (λ _. RE)) yes (λ κs x f. refl), (goes-dropped 𝓤 H A W 2 (plain (λ _. f64)) yes (λ κs x f. refl), (goes-dropped 𝓤 H A W 2 (arrayOf (plain (λ _. R)) 640) yes (λ κs x f. refl), tt)))))))))))))))
       (retouch-array.clauses 𝓤 H A mem run) (WpFn 𝓤 H (𝓣 .C) (𝓣 .Λ) code.function) (WpFn-mono 𝓤 H (W .laws) 𝓣 code.function) (retouch-array-walks known)
 
+-- the theorem
 pub retouch-array-spec : {M : Type 1} → stated.statement M
 unfolding code.routine tablesOf
 retouch-array-spec 𝓤 H 𝓜 𝓖 𝓡 =
