@@ -6,7 +6,7 @@ use mathlib.Core.Logic.{⊎-elim}
 use mathlib.Core.Path.{_≡_, refl, sym, ap, _∙_, subst}
 use native.Mathlib.Omega.{arith}
 use lib.Ieee.{Float, nan}
-use lib.ListN.{length, getD, set, take, drop, length-set, length-append, List·getD-append}
+use lib.ListN.{length, getD, set, take, drop, length-append, List·getD-append}
 use borrow.Author.Tests.{ltb-false}
 use Rattle.refusals.specs.declared.Refusal.{Refusal}
 use Rattle.refusals.specs.declared.Outcome.{Outcome}
@@ -34,7 +34,7 @@ use Rattle.lorentzian_regge.specs.Calls.{BuiltWith, lengthsCheckOf, roomCheckOf
 use Rattle.lorentzian_regge.proofs.BuiltCalls.{built-measured, lengths-passed, room-passed}
 use Rattle.retouch.specs.Retouch.{touched, anew, after}
 use Rattle.hinge_table.specs.Table.{shortRecords, TableWorked, TableRetouched}
-use Rattle.hinge_table.specs.Parts.{Ready, Begun, outcomeOf}
+use Rattle.hinge_table.specs.Parts.{Begun, outcomeOf}
 
 -- ---- all records
 
@@ -118,16 +118,6 @@ module _ {o : Outcome} {c : Counts} {l : Lists} {ts : List ℕ} {n records : ℕ
   -- there is room for all of them
   room-begun : o ≡ Outcome.Done → length ts ≡ c .triangles → c .triangles ≤ records
   room-begun e many = ⊎-elim (λ (h : 0 < c .triangles). begun .ready .room (subst (λ (k : ℕ). 0 < k) (sym (ap (λ (a : LocalAnswer). countOr a 0) (begun .answered ∙ ap (λ (o : Outcome). countBy o (length ts)) e) ∙ many)) h)) (λ (h : c .triangles ≤ 0). omega arith) (lt-or-ge 0 (c .triangles))
-
--- a new length leaves as many as there were
-length-stored : (o : Outcome) (ls : List Float) (e : ℕ) (x : Float) → length (after o (set ls e x) ls) ≡ length ls
-length-stored Outcome.Done ls e x = length-set ls e x
-length-stored (Outcome.Refused q) ls e x = refl
-
--- a retouch: the records are asked for with the changed lengths
-pub ready-retouched : {o : Outcome} {c : Counts} {l : Lists} {ts : List ℕ} {records : ℕ} {answer : LocalAnswer} {pe pt tris : List ℕ} (ls : List Float) (e : ℕ) (x : Float) (ls′ : List Float)
-    → Begun o c l ts (length ls) records answer pe pt tris → ls′ ≡ after o (set ls e x) ls → Ready c (l .pents) (l .edges) (l .triangles) (l .triToPents) (l .triToPentsStarts) pe pt (length ls′) (countOr answer 0) tris records
-ready-retouched {o} ls e x ls′ begun stored = rw (ap length stored ∙ length-stored o ls e x) (begun .ready)
 
 -- after the first step the records of the touched triangles are written from the changed lengths
 pub table-retouched : {o : Outcome} {c : Counts} {l : Lists} {n records : ℕ} {answer : LocalAnswer} {pe pt tris : List ℕ} (F : FaceLists) (ls : List Float) (e : ℕ) (x : Float) (table : List Hinge) (ls′ : List Float) (table′ : List Hinge)

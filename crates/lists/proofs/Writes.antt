@@ -53,12 +53,6 @@ module _ {A : Type 0} (f : ℕ → A) where
   unfolding writes
   writes-next ts xs k h = ap (λ (l : List ℕ). writes f l xs) (ap (λ (n : ℕ). take n ts) (add-one k) ∙ take-suc ts k 0 h) ∙ writes-append (take k ts) (getD ts k 0 ∷ []) xs
 
--- values that are the same at these places
-pub writes-same : {A : Type 0} (f g : ℕ → A) (ts : List ℕ) (xs : List A) → ((t : ℕ) → List·Memᴰ t ts → f t ≡ g t) → writes f ts xs ≡ writes g ts xs
-unfolding writes
-writes-same f g [] xs e = refl
-writes-same f g (t ∷ ts) xs e = ap (λ y. writes f ts (set xs t y)) (e t (List·Memᴰ·head refl)) ∙ writes-same f g ts (set xs t (g t)) (λ u m. e u (List·Memᴰ·tail m))
-
 -- a rule written at the first n places, and the others as they were
 writes-front : {A : Type 0} (f : ℕ → A) (n : ℕ) (xs : List A) → n ≤ length xs → writes f (upto n) xs ≡ map f (upto n) ++ drop n xs
 unfolding upto writes
