@@ -3,15 +3,14 @@ use Prim.Native.Nat.{ℕ, zero, suc, _+_, _*_}
 use mathlib.Core.Bool.{not, cond, _&&_}
 use mathlib.Core.List.{List, [], _∷_, map}
 use lib.Dec.{eqb, ltb}
-use lib.Ieee.{Float, nan, neg, lt}
+use lib.Ieee.{Float, nan}
 use lib.ListN.{length, getD}
 use Rattle.floats.specs.Ops as Ops
 use Rattle.floats.specs.Ops.{_⊕_, _⊗_}
-use Rattle.floats.specs.Methods.{absOf}
 use Rattle.lists.specs.Lists.{keep, gather, upto}
 use Rattle.complex.specs.Complex.{rowNumbers}
 use Rattle.hinges.specs.Hinges.{FaceLists, pentLengths, hinges, hingeIn}
-use Rattle.hinges.specs.Action.{edgesAt, triLengths, areaLimit}
+use Rattle.hinges.specs.Action.{edgesAt, triLengths}
 use Rattle.hessian.specs.Hessian.{slopeRow, firstAdds, secondAdds}
 
 -- ---- places

@@ -18,7 +18,7 @@ use replay::print_end;
 use replay::print_named;
 use replay::print_number;
 use replay::within;
-ghost use Prim.Native.Nat.{_<_, _≤_};
+ghost use Prim.Native.Nat.{_<_};
 ghost use lib.ListN.{length};
 
 // The lengths of both kinds of line.
