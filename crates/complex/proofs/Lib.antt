@@ -5,13 +5,7 @@ pub mod Meetings
 pub mod TriangleEdges
 pub mod Lying
 pub mod FaceNumbers
-pub mod FaceLists
 pub mod Incident
 pub mod Whole
 pub mod Laws
-pub mod Rises
-pub mod Holdings
-pub mod BuiltComplex
-pub mod BuiltAgain
-pub mod Comparisons
 pub mod Pushing

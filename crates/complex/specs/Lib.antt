@@ -2,7 +2,6 @@
 pub mod Complex
 pub mod Builder
 pub mod Check
-pub mod CheckParts
 pub mod Parts
 pub mod Pushed
 pub mod Incidence

@@ -1,19 +1,14 @@
-// The complex of a list of pentachorons: faces numbered by first meeting, adjacency lists, the check of lists that are lent, and
-// incidence.
+// The complex of a list of pentachorons: faces numbered by first meeting, adjacency lists, and incidence.
 mod adjacency;
 mod builder;
 mod checks;
-mod comparison;
-mod holding;
 mod incidence;
 mod numbering;
 mod sorting;
 
 use checks::Rooms;
+pub use checks::has;
 pub use checks::too_large;
-pub use comparison::check_built;
-pub use comparison::is_built;
-pub use comparison::is_built_noting;
 pub use incidence::EdgeNumber;
 pub use incidence::Opposite;
 pub use incidence::PentachoronNumber;
@@ -26,6 +21,7 @@ pub use incidence::pents_of_edge;
 pub use incidence::pents_of_triangle;
 pub use incidence::tri_edge_indices;
 pub use incidence::tris_of_edge;
+pub use numbering::Face;
 use refusals::Outcome;
 use refusals::Refusal;
 pub use sorting::sorted;

@@ -1,16 +1,13 @@
 // The faces of pentachorons, numbered by first meeting.
-use lists::match_rows;
 use lists::meet_rows;
 ghost use mathlib.Core.Path.{_≡_};
-ghost use mathlib.Core.Bool.{true};
 ghost use mathlib.Core.List.{[], _∷_, _++_, map};
 ghost use Prim.Native.Nat.{_+_, _*_, _/_, _≤_};
 ghost use lib.ListN.{length, getD, take, drop};
 ghost use Rattle.lists.specs.Lists.{upto};
-ghost use Rattle.lists.specs.Rows.{rows, over};
-ghost use Rattle.complex.specs.Complex.{widthOf, countOf, facesOf, numbersOf};
-ghost use Rattle.complex.specs.CheckParts.{hasFaces};
-ghost use Rattle.complex.specs.Parts.{Faces, Numbered, Searched};
+ghost use Rattle.lists.specs.Rows.{rows};
+ghost use Rattle.complex.specs.Complex.{widthOf, countOf, facesOf};
+ghost use Rattle.complex.specs.Parts.{Faces, Numbered};
 
 // Two lists of numbers, one after the other.
 fn joined(x: [u32; 20], y: [u32; 10]) -> [u32; 30]
@@ -59,7 +56,7 @@ pub enum Face {
 
 impl Face {
     // How many vertices a face has.
-    fn width(self) -> usize
+    pub fn width(self) -> usize
         ensures { λ r. ⌜ r ≡ widthOf self ⌝ }
     {
         match self {
@@ -70,7 +67,7 @@ impl Face {
     }
 
     // How many such faces a pentachoron has.
-    fn count(self) -> usize
+    pub fn count(self) -> usize
         ensures { λ r. ⌜ r ≡ countOf self ⌝ }
     {
         match self {
@@ -101,7 +98,7 @@ impl Face {
     }
 
     // The faces of the pentachoron at `at`.
-    fn rows_at(self, pents: &[u32], at: usize) -> [u32; 30]
+    pub fn rows_at(self, pents: &[u32], at: usize) -> [u32; 30]
         requires { ⌜ at + 5 ≤ length (now pents) ⌝ }
         ensures { λ r. ⌜ rows (widthOf self) (countOf self) r ≡ facesOf self (take 5 (drop at (now (pents .entry)))) ⌝ }
     {
@@ -149,54 +146,4 @@ pub fn number_faces(
         k += 1;
     }
     n
-}
-
-// Whether `list` begins with the faces of all pentachorons, numbered by first meeting, and n_faces is their count. `next`
-// links the chains of the search; `numbers` gets the number of each face as it is met, and is kept after these.
-pub fn has_faces(
-    face: Face,
-    pents: &[u32],
-    n_faces: usize,
-    list: &[u32],
-    next: &mut [u32],
-    numbers: &mut [u32],
-) -> bool
-    requires { ⌜ Searched face (length (now pents) / 5) (length (now pents)) (length (now next)) (length (now numbers)) ⌝ }
-    ensures { λ r. ⌜ r ≡ hasFaces face (rows 5 (length (now (pents .entry)) / 5) (now (pents .entry))) «n_faces» (now (list .entry)) ⌝ }
-    ensures { λ r. ⌜ (r ≡ true → now (numbers .exit) ≡ over (numbersOf face (rows 5 (length (now (pents .entry)) / 5) (now (pents .entry)))) (now (numbers .entry)))
-        × (drop (countOf face * (length (now (pents .entry)) / 5)) (now (numbers .exit)) ≡ drop (countOf face * (length (now (pents .entry)) / 5)) (now (numbers .entry))) ⌝ }
-{
-    let pentachorons = pents.len() / 5;
-    let w = face.width();
-    let count = face.count();
-    if count * pentachorons < n_faces {
-        return false;
-    }
-    if list.len() < w * n_faces {
-        return false;
-    }
-    let mut head = [0u32; 32768];
-    let mut n = 0;
-    let mut k = 0;
-    while k < pentachorons {
-        let given = face.rows_at(pents, 5 * k);
-        let met = match_rows(
-            list,
-            &mut head,
-            next,
-            n,
-            n_faces,
-            &given,
-            w,
-            count,
-            numbers,
-            count * k,
-        );
-        if !met.same {
-            return false;
-        }
-        n = met.rows;
-        k += 1;
-    }
-    n == n_faces
 }

@@ -3,8 +3,8 @@ mod local;
 mod regge;
 mod retouching;
 
+use comparison::check_built;
 use complex::Counts;
-use complex::check_built;
 use complex::from_pentachorons;
 use foliation::Lattice;
 use foliation::edge_types;

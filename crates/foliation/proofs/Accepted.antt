@@ -25,8 +25,8 @@ use Rattle.complex.specs.declared.checks.Rooms.{Rooms}
 use Rattle.complex.specs.Builder.{pentachorons, sortedPents, isShort, checkOf, countsOf, Lists, written, overAll, Builds}
 use Rattle.complex.proofs.SortedPents.{sorted-is, flat-back}
 use Rattle.complex.proofs.Laws.{all-sorted, all-below, no-repeat, no-offence}
-use Rattle.complex.proofs.Rises.{RisesBelow, AllRise}
-use Rattle.complex.proofs.BuiltAgain.{builder-left, builder-built}
+use Rattle.comparison.proofs.Rises.{RisesBelow, AllRise}
+use Rattle.comparison.proofs.BuiltAgain.{builder-left, builder-built}
 use Rattle.foliation.specs.declared.Lattice.{Lattice}
 use Rattle.foliation.specs.declared.coords.Coords.{Coords}
 use Rattle.foliation.specs.Lattice.{vertexCount, vertex, orders, corners, path, cells, paths, latticePents}

@@ -11,8 +11,8 @@ use Rattle.lists.specs.Sorting.{sort}
 use Rattle.lists.proofs.Tests.{said, lt-or-ge}
 use Rattle.lists.proofs.Elements.{getD-mem, map-at, once-map}
 use Rattle.lists.proofs.Sorting.{length-sort, rising-once}
-use Rattle.complex.specs.CheckParts.{rises, allRise}
-use Rattle.complex.proofs.Rises.{RisesBelow, AllRise, all-rise-says}
+use Rattle.comparison.specs.CheckParts.{rises, allRise}
+use Rattle.comparison.proofs.Rises.{RisesBelow, AllRise, all-rise-says}
 use Rattle.foliation.specs.declared.Lattice.{Lattice}
 use Rattle.foliation.specs.declared.coords.Coords.{Coords}
 use Rattle.foliation.specs.Lattice.{coords, vertex, swap, permute, orders, stepped, corners, path}

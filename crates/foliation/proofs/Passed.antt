@@ -13,8 +13,8 @@ use Rattle.complex.specs.Builder.{Lists}
 use Rattle.complex.specs.declared.numbering.Face.the-variants.{Edge}
 use Rattle.complex.specs.Check.{pentsIn, isBuilt}
 use Rattle.complex.proofs.Offences.{cond-done}
-use Rattle.complex.proofs.FaceLists.{has-room}
-use Rattle.complex.proofs.BuiltComplex.{built-says}
+use Rattle.comparison.proofs.FaceLists.{has-room}
+use Rattle.comparison.proofs.BuiltComplex.{built-says}
 use Rattle.foliation.specs.declared.Lattice.{Lattice}
 use Rattle.foliation.specs.Lattice.{isLawful}
 use Rattle.foliation.specs.OnLattice.{hasLatticePents, latticeCheckOf}

@@ -2,8 +2,8 @@
 use crate::Lattice;
 use crate::coords::n_total;
 use crate::hypercubic::list;
+use comparison::is_built;
 use complex::Counts;
-use complex::is_built;
 use lists::same_row;
 use refusals::Outcome;
 use refusals::Refusal;

@@ -14,7 +14,7 @@ use Rattle.lists.proofs.Rows.{length-rows}
 use Rattle.lists.proofs.Writes.{writes-other, writes-at}
 use Rattle.complex.specs.declared.Counts.{Counts}
 use Rattle.complex.specs.Builder.{Lists}
-use Rattle.complex.proofs.BuiltComplex.{built-says, built-wide, built-simplices}
+use Rattle.comparison.proofs.BuiltComplex.{built-says, built-wide, built-simplices}
 use Rattle.lorentzian.specs.declared.dihedral.HingeType.the-variants.{Spacelike}
 use Rattle.hinges.specs.declared.hinge.Hinge.{Hinge}
 use Rattle.hinges.specs.Hinges.{FaceLists, facesIn, hingeOf, hingeIn}

@@ -21,8 +21,8 @@ use Rattle.lists.proofs.Writes.{writes-upto}
 use Rattle.complex.specs.declared.Counts.{Counts}
 use Rattle.complex.specs.Builder.{Lists}
 use Rattle.complex.specs.Check.{pentsIn, isBuilt, writtenAfter}
-use Rattle.complex.specs.Parts.{Noting}
-use Rattle.complex.proofs.Comparisons.{noted-of}
+use Rattle.comparison.specs.Parts.{Noting}
+use Rattle.comparison.proofs.Comparisons.{noted-of}
 use Rattle.lorentzian.specs.declared.dihedral.HingeType.the-variants.{Spacelike}
 use Rattle.hinges.specs.declared.hinge.Hinge.{Hinge}
 use Rattle.hinges.specs.Hinges.{FaceLists, facesIn, hingeOf, hinges, hingeIn}

@@ -1,9 +1,9 @@
 // What a call on a table of records does before it writes them: the checks, the incidence lists, the triangles whose records are to
 // be written, and the new length. The three lists of scratch have 81,920 places.
+use comparison::is_built_noting;
 use complex::Counts;
 use complex::EdgeNumber;
 use complex::TriangleNumber;
-use complex::is_built_noting;
 use hinges::Hinge;
 use hinges::hinge_at;
 use lorentzian_regge::LocalAnswer;

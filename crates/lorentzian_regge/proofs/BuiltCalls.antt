@@ -25,7 +25,7 @@ use Rattle.complex.specs.Check.{pentsIn, isBuilt}
 use Rattle.complex.proofs.Offences.{cond-done}
 use Rattle.complex.proofs.Meetings.{length-met}
 use Rattle.complex.proofs.Lying.{faces-has, edge-of-triangle}
-use Rattle.complex.proofs.BuiltComplex.{IsBuilt, built-says, built-sorted, built-wide, built-edges, built-triangles, built-tri-to-pents, built-pent-edges, built-pent-tris, built-simplices, built-lie}
+use Rattle.comparison.proofs.BuiltComplex.{IsBuilt, built-says, built-sorted, built-wide, built-edges, built-triangles, built-tri-to-pents, built-pent-edges, built-pent-tris, built-simplices, built-lie}
 use Rattle.hinges.specs.Hinges.{FaceLists, builtFaces, facesIn, hinges, hingeAt}
 use Rattle.hinges.specs.Parts.{Measured}
 use Rattle.hinges.proofs.OnePass.{built-one-pass}

@@ -24,7 +24,7 @@ use Rattle.complex.specs.Builder.{Lists, tooLarge, repeats}
 use Rattle.complex.specs.Check.{pentsIn, edgesIn, trianglesIn, holds}
 use Rattle.complex.proofs.Offences.{cond-done, once-of}
 use Rattle.complex.proofs.Laws.{not-large}
-use Rattle.complex.proofs.BuiltComplex.{built-says, built-edge-to-tris, built-edge-to-pents}
+use Rattle.comparison.proofs.BuiltComplex.{built-says, built-edge-to-tris, built-edge-to-pents}
 use Rattle.lorentzian.specs.declared.dihedral.HingeType.the-variants.{Spacelike}
 use Rattle.hinges.specs.Hinges.{FaceLists, facesIn, hingeOf, hinges, hingeIn, deficitsOf, kindsOf}
 use Rattle.hinges.specs.Action.{contributions}

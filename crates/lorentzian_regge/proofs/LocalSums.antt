@@ -12,7 +12,7 @@ use Rattle.complex.specs.declared.Counts.{Counts}
 use Rattle.complex.specs.Complex.{edges, triToPents}
 use Rattle.complex.specs.Builder.{Lists}
 use Rattle.complex.specs.Check.{pentsIn, isBuilt}
-use Rattle.complex.proofs.BuiltComplex.{built-says, built-sorted, built-wide, built-edges}
+use Rattle.comparison.proofs.BuiltComplex.{built-says, built-sorted, built-wide, built-edges}
 use Rattle.hinges.specs.Hinges.{FaceLists, builtFaces, facesIn, hingeAt}
 use Rattle.hinges.specs.Local.{localTriangles, localHinges, localGradient, summedGradient}
 use Rattle.hinges.proofs.LocalEntries.{local-hinge, summed-gradient}

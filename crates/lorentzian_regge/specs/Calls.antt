@@ -13,7 +13,7 @@ use Rattle.refusals.specs.declared.Outcome.the-variants.{Done, Refused}
 use Rattle.complex.specs.declared.Counts.{Counts}
 use Rattle.complex.specs.Builder.{Lists, tooLarge, repeats}
 use Rattle.complex.specs.Check.{pentsIn, isBuilt, writtenAfter}
-use Rattle.complex.specs.Parts.{Noted}
+use Rattle.comparison.specs.Parts.{Noted}
 use Rattle.lorentzian.specs.Dihedral.{kindNumber}
 use Rattle.hinges.specs.declared.hinge.Hinge.{Hinge}
 use Rattle.hinges.specs.Hinges.{FaceLists, hinges, deficitsOf, kindsOf}

@@ -1,8 +1,8 @@
 // The action of a complex.
 use crate::checks::check_lengths;
+use comparison::is_built_noting;
 use complex::Counts;
 use complex::TriangleNumber;
-use complex::is_built_noting;
 use complex::tri_edge_indices;
 use hinges::abs_area;
 use hinges::tri_sq_lengths;

@@ -2,9 +2,9 @@
 use crate::checks::check_lengths;
 use crate::checks::check_room;
 use crate::checks::check_triangle;
+use comparison::is_built_noting;
 use complex::Counts;
 use complex::TriangleNumber;
-use complex::is_built_noting;
 use hinges::Hinge;
 use hinges::KindByte;
 use hinges::hinge_at;

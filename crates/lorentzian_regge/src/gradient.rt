@@ -1,9 +1,9 @@
 // The gradient of the action by the squared lengths.
 use crate::checks::check_lengths;
 use crate::checks::check_room;
+use comparison::is_built_noting;
 use complex::Counts;
 use complex::TriangleNumber;
-use complex::is_built_noting;
 use complex::tri_edge_indices;
 use hinges::add_contributions;
 use hinges::tri_sq_lengths;

@@ -1,9 +1,9 @@
 // The deficits of the triangles on free edges.
 use crate::checks::check_free;
 use crate::checks::check_lengths;
+use comparison::is_built_noting;
 use complex::Counts;
 use complex::TriangleNumber;
-use complex::is_built_noting;
 use hinges::KindByte;
 use hinges::count_marked;
 use hinges::hinge_at;

@@ -1,8 +1,8 @@
 // The local Hessian of the action.
 use crate::checks::check_free;
 use crate::checks::check_lengths;
+use comparison::is_built_noting;
 use complex::Counts;
-use complex::is_built_noting;
 use hessian::write_hessian;
 use refusals::Outcome;
 use refusals::Refusal;

@@ -1,12 +1,17 @@
-// What the replay programs share: numbers read from hexadecimal digits, doubles as text, and what is printed alike.
+// What the replay programs share: numbers read from hexadecimal digits, lists filled with them or with a pattern, doubles as text,
+// and what is printed alike.
 use libc::STDOUT_FILENO;
 ghost use mathlib.Core.Path.{_≡_};
 ghost use mathlib.Core.Bool.{cond};
-ghost use Prim.Native.Nat.{_+_, _<_, _≤_};
+ghost use mathlib.Core.List.{map};
+ghost use Prim.Native.Nat.{_+_, _*_, _<_, _≤_};
 ghost use lib.Dec.{ltb};
 ghost use lib.ListN.{length, take, drop};
 ghost use Rattle.io.specs.Counts.{Counts};
+ghost use Rattle.lists.specs.Lists.{upto};
+ghost use Rattle.lists.specs.Rows.{over};
 ghost use Rattle.replay.specs.Hexadecimal.{digitOf, spelled, numberAt, textOf};
+ghost use Rattle.replay.specs.Filled.{patternAt, doublePatternAt, wordIn, doubleIn};
 
 // ---- reading
 
@@ -65,6 +70,56 @@ pub fn within(n: usize, most: usize) -> usize
     most
 }
 
+// ---- lists
+
+// Writes the lower 32 bits of `count` numbers from `at` on, 17 bytes each, to the front of a list.
+pub fn read_words(s: &[u8], at: usize, count: usize, list: &mut [u32])
+    requires { ⌜ (count ≤ length (now list)) × (at + 17 * count < 0x1_0000_0000) ⌝ }
+    ensures { λ _. ⌜ now (list .exit) ≡ over (map (wordIn (now (s .entry)) at) (upto count)) (now (list .entry)) ⌝ }
+{
+    for i in 0..count {
+        list[i] = (number(s, at + 17 * i) % 0x1_0000_0000) as u32;
+    }
+}
+
+// Writes the doubles whose bits are `count` numbers from `at` on, 17 bytes each, to the front of a list.
+pub fn read_doubles(s: &[u8], at: usize, count: usize, list: &mut [f64])
+    requires { ⌜ (count ≤ length (now list)) × (at + 17 * count < 0x1_0000_0000) ⌝ }
+    ensures { λ _. ⌜ now (list .exit) ≡ over (map (doubleIn (now (s .entry)) at) (upto count)) (now (list .entry)) ⌝ }
+{
+    for i in 0..count {
+        list[i] = floats::of_bits(number(s, at + 17 * i));
+    }
+}
+
+// Fills a list of numbers with the pattern that it has before a call.
+pub fn fill_numbers(list: &mut [u32])
+    ensures { λ _. ⌜ now (list .exit) ≡ map patternAt (upto (length (now (list .entry)))) ⌝ }
+{
+    for i in 0..list.len() {
+        list[i] = 50000 + (i % 10000) as u32;
+    }
+}
+
+// Fills a list of doubles with the pattern that it has before a call.
+pub fn fill_doubles(list: &mut [f64])
+    ensures { λ _. ⌜ now (list .exit) ≡ map doublePatternAt (upto (length (now (list .entry)))) ⌝ }
+{
+    for i in 0..list.len() {
+        list[i] = floats::of_bits(50000 + (i % 10000) as u64);
+    }
+}
+
+// The first `n` places of a list, all of them where it has fewer.
+pub fn first<'a>(list: &'a [u32], n: usize) -> &'a [u32]
+    ensures { λ r. ⌜ now r ≡ take n (now (list .entry)) ⌝ }
+{
+    if n < list.len() {
+        return &list[..n];
+    }
+    list
+}
+
 // ---- printing
 
 // The first `len` bytes are a text.
@@ -113,6 +168,14 @@ pub fn print_double(x: f64) {
 // The end of a line.
 pub fn print_end() {
     io::write_all(STDOUT_FILENO, b"\n");
+}
+
+// The rest of a line: numbers.
+pub fn print_numbers(list: &[u32]) {
+    for i in 0..list.len() {
+        print_number(list[i] as u64);
+    }
+    print_end();
 }
 
 // The rest of a line: doubles.

@@ -8,9 +8,12 @@ use complex::Built;
 use libc::STDIN_FILENO;
 use libc::STDOUT_FILENO;
 use refusals::Refusal;
+use replay::first;
 use replay::print_end;
 use replay::print_named;
 use replay::print_number;
+use replay::print_numbers;
+use replay::read_words;
 use replay::within;
 ghost use Prim.Native.Nat.{_<_, _≤_};
 ghost use lib.ListN.{length};
@@ -47,22 +50,13 @@ fn changes_of(line: &[u8]) -> usize
     within(number_at(line, 12) as usize, 300)
 }
 
-// The i-th vertex of the pentachorons of a line.
-fn vertex_of(line: &[u8], i: usize) -> u32
-    requires { ⌜ i < 100 ⌝ }
-{
-    (number_at(line, 13 + i) % 0x1_0000_0000) as u32
-}
-
 // The first `count` vertices of the pentachorons of a line.
 fn vertices_of(line: &[u8], count: usize) -> [u32; 100]
     requires { ⌜ count ≤ 100 ⌝ }
     ensures { λ r. ⌜ Counts count r ⌝ }
 {
     let mut vertices = [0; 100];
-    for i in 0..count {
-        vertices[i] = vertex_of(line, i);
-    }
+    read_words(line, 17 * 13, count, &mut vertices);
     vertices
 }
 
@@ -87,14 +81,6 @@ fn copied(list: &[u32]) -> [u32; 1000] {
         copy[i] = list[i];
     }
     copy
-}
-
-// The first `n` places of a list, all of them where it has fewer.
-fn first<'a>(list: &'a [u32], n: usize) -> &'a [u32] {
-    if n < list.len() {
-        return &list[..n];
-    }
-    list
 }
 
 // Puts a number at a place of a list, where it has that place.
@@ -141,10 +127,7 @@ fn print_built(built: Built) {
 // A line with a list's name and content.
 fn print_list(name: &[u8], list: &[u32]) {
     io::write_all(STDOUT_FILENO, name);
-    for i in 0..list.len() {
-        print_number(list[i] as u64);
-    }
-    print_end();
+    print_numbers(list);
 }
 
 // The ten lists, a line for each.
@@ -190,7 +173,7 @@ fn print_checked(
     pent_edges: &mut [u32],
     pent_tris: &mut [u32],
 ) {
-    let outcome = complex::check_built(
+    let outcome = comparison::check_built(
         counts,
         pents,
         edges,

@@ -13,6 +13,9 @@ use foliation::Lattice;
 use foliation::Listed;
 use libc::STDIN_FILENO;
 use libc::STDOUT_FILENO;
+use replay::fill_doubles;
+use replay::fill_numbers;
+use replay::first;
 use replay::print_double;
 use replay::print_end;
 use replay::print_named;
@@ -57,33 +60,11 @@ fn lattice_at(line: &[u8], i: usize) -> Lattice
 
 // ---- lists
 
-// The pattern of a list before a call.
-fn fill(list: &mut [u32]) {
-    for i in 0..list.len() {
-        list[i] = 50000 + (i % 10000) as u32;
-    }
-}
-
 // The pattern of types before a call.
 fn fill_types(types: &mut [u8]) {
     for i in 0..types.len() {
         types[i] = 100 + (i % 100) as u8;
     }
-}
-
-// The pattern of lengths before a call.
-fn fill_lengths(lengths: &mut [f64]) {
-    for i in 0..lengths.len() {
-        lengths[i] = floats::of_bits(50000 + (i % 10000) as u64);
-    }
-}
-
-// The first `n` places of a list, all of them where it has fewer.
-fn first<'a>(list: &'a [u32], n: usize) -> &'a [u32] {
-    if n < list.len() {
-        return &list[..n];
-    }
-    list
 }
 
 // Puts a number at a place of a list, where it has that place.
@@ -155,7 +136,7 @@ fn print_lengths(lengths: &[f64]) {
 
 // The answer to a line `l` on this list.
 fn print_listed(line: &[u8], pents: &mut [u32]) {
-    fill(pents);
+    fill_numbers(pents);
     let listed = foliation::foliated_hypercubic(lattice_at(line, 0), pents);
     print_named(b"listed", listed.number() as u64);
     print_number(listed.count_or(77) as u64);
@@ -224,7 +205,7 @@ fn print_sq_lengths(
     edge_to_pents_starts: &[u32],
     lengths: &mut [f64],
 ) {
-    fill_lengths(lengths);
+    fill_doubles(lengths);
     let outcome = foliation::flat_minkowski_sq_lengths(
         lattice_at(line, 0),
         counts,

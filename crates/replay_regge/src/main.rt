@@ -19,11 +19,16 @@ use libc::STDOUT_FILENO;
 use lorentzian::HingeType;
 use lorentzian_regge::Hinge;
 use lorentzian_regge::KindByte;
+use replay::fill_doubles;
+use replay::fill_numbers;
 use replay::print_double;
 use replay::print_doubles;
 use replay::print_end;
 use replay::print_named;
 use replay::print_number;
+use replay::print_numbers;
+use replay::read_doubles;
+use replay::read_words;
 use replay::within;
 ghost use Prim.Native.Nat.{_+_, _<_, _≤_};
 ghost use lib.ListN.{length};
@@ -123,9 +128,7 @@ fn given_of(line: &[u8]) -> [u32; 40] {
 fn sq_lengths_of(line: &[u8]) -> [f64; 80] {
     let mut sq_lengths = [0.0; 80];
     let start = 10 + pents_of(line);
-    for i in 0..lengths_of(line) {
-        sq_lengths[i] = floats::of_bits(number_at(line, start + i));
-    }
+    read_doubles(line, 17 * start, lengths_of(line), &mut sq_lengths);
     sq_lengths
 }
 
@@ -133,27 +136,11 @@ fn sq_lengths_of(line: &[u8]) -> [f64; 80] {
 fn free_edges_of(line: &[u8]) -> [u32; 12] {
     let mut free_edges = [0; 12];
     let start = 10 + pents_of(line) + lengths_of(line);
-    for i in 0..frees_of(line) {
-        free_edges[i] = (number_at(line, start + i) % 0x1_0000_0000) as u32;
-    }
+    read_words(line, 17 * start, frees_of(line), &mut free_edges);
     free_edges
 }
 
 // ---- lists
-
-// The pattern of doubles before a call.
-fn fill(list: &mut [f64]) {
-    for i in 0..list.len() {
-        list[i] = floats::of_bits(50000 + (i % 10000) as u64);
-    }
-}
-
-// The pattern of numbers before a call.
-fn fill_numbers(list: &mut [u32]) {
-    for i in 0..list.len() {
-        list[i] = 50000 + (i % 10000) as u32;
-    }
-}
 
 // Puts a number at a place of a list, where it has that place.
 fn put(list: &mut List, place: usize, n: u32) {
@@ -184,14 +171,6 @@ fn print_byte(byte: u8) {
             io::write_all(STDOUT_FILENO, b" -");
         }
     }
-}
-
-// The rest of a line: numbers.
-fn print_numbers(list: &[u32]) {
-    for i in 0..list.len() {
-        print_number(list[i] as u64);
-    }
-    print_end();
 }
 
 // A line with kinds.
@@ -231,7 +210,7 @@ fn print_deficits<'a>(
     deficits: &mut [f64],
     kinds: &mut [u8],
 ) {
-    fill(deficits);
+    fill_doubles(deficits);
     let outcome = lorentzian_regge::lorentzian_deficit_angles(
         counts,
         pents,
@@ -346,7 +325,7 @@ fn print_grad<'a>(
     sq_lengths: &'a [f64],
     grad: &mut [f64],
 ) {
-    fill(grad);
+    fill_doubles(grad);
     let outcome = lorentzian_regge::lorentzian_regge_action_grad(
         counts,
         pents,
@@ -388,7 +367,7 @@ fn print_local_deficits<'a>(
     kinds: &mut [u8],
 ) {
     fill_numbers(tris);
-    fill(deficits);
+    fill_doubles(deficits);
     let answer = lorentzian_regge::local_deficit_angles(
         counts,
         pents,
@@ -432,7 +411,7 @@ fn print_local_grad<'a>(
     free_edges: &'a [u32],
     grad: &mut [f64],
 ) {
-    fill(grad);
+    fill_doubles(grad);
     let outcome = lorentzian_regge::local_lorentzian_regge_action_grad(
         counts,
         pents,
@@ -471,7 +450,7 @@ fn print_hessian<'a>(
     step: f64,
     hessian: &mut [f64],
 ) {
-    fill(hessian);
+    fill_doubles(hessian);
     let outcome = lorentzian_regge::local_lorentzian_regge_hessian(
         counts,
         pents,

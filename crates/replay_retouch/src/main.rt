@@ -21,6 +21,8 @@ use replay::print_doubles;
 use replay::print_end;
 use replay::print_named;
 use replay::print_number;
+use replay::read_doubles;
+use replay::read_words;
 use replay::within;
 ghost use Prim.Native.Nat.{_<_, _≤_};
 ghost use lib.ListN.{length};
@@ -113,9 +115,7 @@ fn kinds_of(line: &[u8]) -> usize
 // The vertices of a line's pentachorons.
 fn given_of(line: &[u8]) -> [u32; 40] {
     let mut given = [0; 40];
-    for i in 0..vertices_of(line) {
-        given[i] = word_at(line, 13 + i);
-    }
+    read_words(line, 17 * 13, vertices_of(line), &mut given);
     given
 }
 
@@ -123,9 +123,7 @@ fn given_of(line: &[u8]) -> [u32; 40] {
 fn sq_lengths_of(line: &[u8]) -> [f64; 80] {
     let mut sq_lengths = [0.0; 80];
     let start = 13 + vertices_of(line);
-    for i in 0..lengths_of(line) {
-        sq_lengths[i] = floats::of_bits(number_at(line, start + i));
-    }
+    read_doubles(line, 17 * start, lengths_of(line), &mut sq_lengths);
     sq_lengths
 }
 

@@ -20,7 +20,7 @@ use Rattle.complex.specs.declared.Counts.{Counts}
 use Rattle.complex.specs.Builder.{Lists}
 use Rattle.complex.specs.Check.{edgesIn, isBuilt}
 use Rattle.complex.specs.Incidence.{Simplices}
-use Rattle.complex.proofs.BuiltComplex.{built-says, built-wide, built-simplices}
+use Rattle.comparison.proofs.BuiltComplex.{built-says, built-wide, built-simplices}
 use Rattle.lorentzian.specs.Dihedral.{kindNumber}
 use Rattle.hinges.specs.declared.hinge.Hinge.{Hinge}
 use Rattle.hinges.specs.declared.hinge.KindByte.the-variants.{Kind, NoKind}

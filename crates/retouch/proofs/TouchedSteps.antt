@@ -23,7 +23,7 @@ use Rattle.complex.specs.Complex.{rowNumbers}
 use Rattle.complex.specs.Builder.{Lists}
 use Rattle.complex.specs.Check.{pentsIn, edgesIn, trianglesIn, holds}
 use Rattle.complex.proofs.Offences.{or-false}
-use Rattle.complex.proofs.BuiltComplex.{built-says, built-edge-to-pents}
+use Rattle.comparison.proofs.BuiltComplex.{built-says, built-edge-to-pents}
 use Rattle.hinges.specs.Hinges.{FaceLists, facesIn}
 use Rattle.hinges.specs.Local.{listed, marked, markedBelow}
 use Rattle.hinges.specs.Parts.{Found, Measured}

@@ -3,9 +3,9 @@
 mod records;
 mod touched;
 
+use comparison::is_built_noting;
 use complex::Counts;
 use complex::EdgeNumber;
-use complex::is_built_noting;
 use lorentzian_regge::check_lengths;
 use lorentzian_regge::check_room;
 use records::write_records;

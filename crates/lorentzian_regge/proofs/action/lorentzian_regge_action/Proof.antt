@@ -5,7 +5,7 @@ use borrow.Author.Tests.{not-true, not-false}
 use borrow.Author.Needs.{needs}
 use Rattle.refusals.specs.declared.Outcome.the-variants as Outcome
 use Rattle.complex.specs.Builder.{lists}
-use Rattle.complex.proofs.Comparisons.{noted-of}
+use Rattle.comparison.proofs.Comparisons.{noted-of}
 use Rattle.hinges.specs.Hinges.{facesIn}
 use Rattle.hinges.specs.Action.{action}
 use Rattle.lorentzian_regge.specs.Calls.{lengthsCheckOf, actionBy}

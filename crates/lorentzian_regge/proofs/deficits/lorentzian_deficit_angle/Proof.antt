@@ -4,7 +4,7 @@ use lib.ListN.{length}
 use borrow.Author.Tests.{not-true, not-false}
 use borrow.Author.Needs.{needs}
 use Rattle.complex.specs.Builder.{lists}
-use Rattle.complex.proofs.Comparisons.{noted-of}
+use Rattle.comparison.proofs.Comparisons.{noted-of}
 use Rattle.hinges.specs.Hinges.{facesIn, hinges, hingeIn}
 use Rattle.lorentzian_regge.specs.Calls.{lengthsCheckOf, triangleCheckOf, hingeBy}
 use Rattle.lorentzian_regge.proofs.BuiltCalls.{not-built, others-decide}

@@ -4,7 +4,7 @@ use lib.ListN.{length}
 use borrow.Author.Needs.{needs}
 use borrow.Author.Tests.{not-true, not-false}
 use Rattle.complex.specs.Builder.{lists}
-use Rattle.complex.proofs.Comparisons.{noted-of}
+use Rattle.comparison.proofs.Comparisons.{noted-of}
 use Rattle.hinges.specs.Hinges.{facesIn}
 use Rattle.lorentzian_regge.specs.Calls.{lengthsCheckOf, freeCheckOf, roomCheckOf, shortLocal}
 use Rattle.lorentzian_regge.proofs.BuiltCalls.{not-built, others-decide}

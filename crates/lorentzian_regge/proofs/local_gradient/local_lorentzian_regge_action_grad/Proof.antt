@@ -5,7 +5,7 @@ use lib.ListN.{length}
 use borrow.Author.Needs.{needs}
 use borrow.Author.Tests.{not-true, not-false}
 use Rattle.complex.specs.Builder.{lists}
-use Rattle.complex.proofs.Comparisons.{noted-of}
+use Rattle.comparison.proofs.Comparisons.{noted-of}
 use Rattle.lorentzian_regge.specs.Calls.{lengthsCheckOf, freeCheckOf, roomCheckOf}
 use Rattle.lorentzian_regge.proofs.BuiltCalls.{not-built, others-decide}
 use Rattle.lorentzian_regge.proofs.local_gradient.local_lorentzian_regge_action_grad.Statement.{statement}

@@ -1,0 +1,3 @@
+-- The definitions that contracts on the check of a complex cite.
+pub mod CheckParts
+pub mod Parts

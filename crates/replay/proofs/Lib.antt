@@ -1,0 +1,2 @@
+-- Laws on what the replay programs share.
+pub mod Filling
