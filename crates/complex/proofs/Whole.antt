@@ -14,9 +14,10 @@ use Rattle.lists.proofs.Sorting.{sort-rising}
 use Rattle.complex.specs.declared.Counts.{Counts}
 use Rattle.complex.specs.declared.numbering.Face.{Face}
 use Rattle.complex.specs.declared.numbering.Face.the-variants.{Edge, Triangle, Tet}
+use Rattle.complex.specs.declared.numbering.FaceCounts.{FaceCounts}
 use Rattle.complex.specs.Complex.{widthOf, countOf, faces, edges, triangles, tets, triToPents, edgeToTris, edgeToPents, numbersOf}
 use Rattle.complex.specs.Builder.{pentachorons, sortedPents, countsOf, Lists, lists, written, overAll}
-use Rattle.complex.specs.Parts.{Faces, Numbered, EdgesOf, Lent, Adjacent, Buildable}
+use Rattle.complex.specs.Parts.{Faces, Numbered, AllNumbered, EdgesOf, Lent, Adjacent, Buildable}
 use Rattle.complex.proofs.SortedPents.{sorted-wide-all, length-sorted-all, sorted-back}
 use Rattle.complex.proofs.Meetings.{count-le}
 use Rattle.complex.proofs.Lying.{Sorted}
@@ -48,8 +49,13 @@ module _ (given : List ℕ) (l : Lists) (ok : Buildable given l) where
     pub part-long : length (take (length given) s) ≡ length given
     part-long = ap length part ∙ length-pents
 
-    pub part-rows : rows 5 (length (take (length given) s) / 5) (take (length given) s) ≡ sortedPents given
+    part-rows : rows 5 (length (take (length given) s) / 5) (take (length given) s) ≡ sortedPents given
     part-rows = ap pentachorons part ∙ sorted-back given
+
+    -- what is numbered of the list's front is numbered of the sorted pentachorons
+    pub on-sorted : {es es′ ts ts′ ks ks′ pe pe′ pt pt′ : List ℕ} {r : FaceCounts} → AllNumbered (rows 5 (length (take (length given) s) / 5) (take (length given) s)) es es′ ts ts′ ks ks′ pe pe′ pt pt′ r
+        → AllNumbered (sortedPents given) es es′ ts ts′ ks ks′ pe pe′ pt pt′ r
+    on-sorted {es} {es′} {ts} {ts′} {ks} {ks′} {pe} {pe′} {pt} {pt′} {r} w = subst (λ (ps : List (List ℕ)). AllNumbered ps es es′ ts ts′ ks ks′ pe pe′ pt pt′ r) part-rows w
 
     -- there is room for the faces of a kind
     pub faces-room : (f : Face) (list next numbers : ℕ) → widthOf f * (countOf f * (length given / 5)) ≤ list → 81920 ≤ next → 81920 ≤ numbers

@@ -7,6 +7,8 @@ use Rattle.lists.specs.Lists.{Once}
 use Rattle.lists.specs.Rows.{flat, over}
 use Rattle.lists.specs.Groups.{Below}
 use Rattle.complex.specs.declared.numbering.Face.{Face}
+use Rattle.complex.specs.declared.numbering.Face.the-variants.{Edge, Triangle, Tet}
+use Rattle.complex.specs.declared.numbering.FaceCounts.{FaceCounts}
 use Rattle.complex.specs.Complex.{widthOf, countOf, faces, numbersOf}
 use Rattle.complex.specs.Builder.{Lists, pentachorons}
 
@@ -27,6 +29,18 @@ pub record Numbered (f : Face) (ps : List (List ℕ)) (list list′ numbers numb
   pub count : r ≡ length (faces f ps)
   pub rows : list′ ≡ over (flat (faces f ps)) list
   pub noted : numbers′ ≡ over (numbersOf f ps) numbers
+
+-- room for the faces of all three kinds
+pub record AllFaces (pents edges triangles tets next pe pt : ℕ) : Type 0 where
+  pub for-tets : Faces Tet (pents / 5) pents tets next pt
+  pub for-edges : Faces Edge (pents / 5) pents edges next pe
+  pub for-triangles : Faces Triangle (pents / 5) pents triangles next pt
+
+-- the faces of ps are numbered, each kind in its own list; pt has the numbers of the triangles over those of the tets
+pub record AllNumbered (ps : List (List ℕ)) (edges edges′ triangles triangles′ tets tets′ pe pe′ pt pt′ : List ℕ) (r : FaceCounts) : Type 0 where
+  pub on-tets : Numbered Tet ps tets tets′ pt (over (numbersOf Tet ps) pt) (r .tets)
+  pub on-edges : Numbered Edge ps edges edges′ pe pe′ (r .edges)
+  pub on-triangles : Numbered Triangle ps triangles triangles′ (over (numbersOf Tet ps) pt) pt′ (r .triangles)
 
 -- ---- the edges of triangles
 

@@ -1,8 +1,7 @@
 // The complex of a list of pentachorons that passed the checks.
 use crate::Counts;
 use crate::adjacency::adjacency;
-use crate::numbering::Face;
-use crate::numbering::number_faces;
+use crate::numbering::number_all;
 use crate::sorting::sort_all;
 ghost use mathlib.Core.Path.{_≡_};
 ghost use Rattle.complex.specs.Builder.{sortedPents, countsOf, lists, written, overAll};
@@ -40,15 +39,17 @@ pub fn build(
     let len = given.len();
     let met = 2 * len;
     sort_all(given, pents);
-    let n_tets = number_faces(Face::Tet, &pents[..len], tets, &mut work, &mut pent_tris);
-    let n_edges = number_faces(Face::Edge, &pents[..len], edges, &mut work, &mut pent_edges);
-    let n_tris = number_faces(
-        Face::Triangle,
+    let faces = number_all(
         &pents[..len],
+        edges,
         triangles,
+        tets,
         &mut work,
+        &mut pent_edges,
         &mut pent_tris,
     );
+    let n_edges = faces.edges;
+    let n_tris = faces.triangles;
     adjacency(
         &pent_edges[..met],
         &pent_tris[..met],
@@ -67,6 +68,6 @@ pub fn build(
         pentachorons: len / 5,
         edges: n_edges,
         triangles: n_tris,
-        tets: n_tets,
+        tets: faces.tets,
     }
 }

@@ -7,7 +7,7 @@ ghost use lib.ListN.{length, getD, take, drop};
 ghost use Rattle.lists.specs.Lists.{upto};
 ghost use Rattle.lists.specs.Rows.{rows};
 ghost use Rattle.complex.specs.Complex.{widthOf, countOf, facesOf};
-ghost use Rattle.complex.specs.Parts.{Faces, Numbered};
+ghost use Rattle.complex.specs.Parts.{Faces, Numbered, AllFaces, AllNumbered};
 
 // Two lists of numbers, one after the other.
 fn joined(x: [u32; 20], y: [u32; 10]) -> [u32; 30]
@@ -146,4 +146,36 @@ pub fn number_faces(
         k += 1;
     }
     n
+}
+
+// How many faces of each kind there are.
+pub struct FaceCounts {
+    pub edges: usize,
+    pub triangles: usize,
+    pub tets: usize,
+}
+
+// The faces of all three kinds are numbered, each kind in its own list. `next` links the chains of the search; `pent_edges` and
+// `pent_tris` get the numbers of the edges and of the triangles as they are met.
+pub fn number_all(
+    pents: &[u32],
+    edges: &mut [u32],
+    triangles: &mut [u32],
+    tets: &mut [u32],
+    next: &mut [u32],
+    pent_edges: &mut [u32],
+    pent_tris: &mut [u32],
+) -> FaceCounts
+    requires { ⌜ AllFaces (length (now pents)) (length (now edges)) (length (now triangles)) (length (now tets)) (length (now next)) (length (now «pent_edges»)) (length (now «pent_tris»)) ⌝ }
+    ensures { λ r. ⌜ AllNumbered (rows 5 (length (now (pents .entry)) / 5) (now (pents .entry))) (now (edges .entry)) (now (edges .exit)) (now (triangles .entry)) (now (triangles .exit))
+        (now (tets .entry)) (now (tets .exit)) (now («pent_edges» .entry)) (now («pent_edges» .exit)) (now («pent_tris» .entry)) (now («pent_tris» .exit)) r ⌝ }
+{
+    let n_tets = number_faces(Face::Tet, pents, tets, next, pent_tris);
+    let n_edges = number_faces(Face::Edge, pents, edges, next, pent_edges);
+    let n_tris = number_faces(Face::Triangle, pents, triangles, next, pent_tris);
+    FaceCounts {
+        edges: n_edges,
+        triangles: n_tris,
+        tets: n_tets,
+    }
 }
