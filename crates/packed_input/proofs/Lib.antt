@@ -1,0 +1,4 @@
+-- Laws of the program's input.
+mod Spelling
+mod Refusing
+mod Complexes
