@@ -46,7 +46,7 @@ module _ (input : List ℕ) where
   header-decides r e = rw e refl
 
   -- else the builder does
-  builder-decides : headerCheckOf input ≡ Outcome.Done → complexCheckOf input ≡ checkOf (vertexCount input) (givenIn input) (roomFor 64)
+  pub builder-decides : headerCheckOf input ≡ Outcome.Done → complexCheckOf input ≡ checkOf (vertexCount input) (givenIn input) (roomFor 64)
   unfolding complexCheckOf
   builder-decides e = rw e refl
 
@@ -60,7 +60,7 @@ module _ (input : List ℕ) where
 -- ---- its size
 
 -- what is decoded to a complex has a header
-header-passed : (input : List ℕ) → complexCheckOf input ≡ Outcome.Done → headerCheckOf input ≡ Outcome.Done
+pub header-passed : (input : List ℕ) → complexCheckOf input ≡ Outcome.Done → headerCheckOf input ≡ Outcome.Done
 unfolding complexCheckOf
 header-passed input = go (headerCheckOf input)
   where

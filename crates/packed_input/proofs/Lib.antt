@@ -2,3 +2,4 @@
 mod Spelling
 mod Refusing
 mod Complexes
+pub mod DecodedComplex

@@ -1,0 +1,3 @@
+-- Laws of the program's answer.
+mod Passing
+mod Reporting

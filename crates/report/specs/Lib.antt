@@ -1,0 +1,2 @@
+-- The definitions that contracts on the program's answer cite.
+pub mod Report
