@@ -1,11 +1,9 @@
--- Numbers spelled in hexadecimal digits, and a double as text. Definitions only.
+-- Numbers spelled in hexadecimal digits. Definitions only.
 use Prim.Native.Nat.{ℕ, _+_, _-_, _*_, _%_}
 use mathlib.Core.Bool.{cond}
 use mathlib.Core.List.{List, [], _∷_}
 use lib.Dec.{ltb}
 use lib.ListN.{length, take, drop}
-use lib.Ieee.{Float, binary64, isNan, toBits}
-use Rattle.io.specs.Digits.{digits}
 
 -- the value of a digit in lower case, and 0 for any other byte
 unfoldable pub digitOf : ℕ → ℕ
@@ -19,7 +17,3 @@ spelled n (b ∷ bs) = spelled (n % 0x1000_0000_0000_0000 * 16 + digitOf b) bs
 -- the number that the 16 digits of s from `at` spell, 0 where they run past the end
 unfoldable pub numberAt : List ℕ → ℕ → ℕ
 numberAt s at = cond (ltb (length s) (at + 16)) 0 (spelled 0 (take 16 (drop at s)))
-
--- the 16 digits of x's bit pattern, or nan
-unfoldable pub textOf : Float → List ℕ
-textOf x = cond (isNan x) (110 ∷ 97 ∷ 110 ∷ []) (digits 16 16 (toBits binary64 x))

@@ -1,16 +1,20 @@
-// What the replay programs share: numbers read from hexadecimal digits, lists filled with them or with a pattern, doubles as text,
-// and what is printed alike.
-use libc::STDOUT_FILENO;
+// What the replay programs share: numbers read from hexadecimal digits, lists filled with them or with a pattern, and what they
+// print alike.
+pub use printing::print_double;
+pub use printing::print_doubles;
+pub use printing::print_end;
+pub use printing::print_named;
+pub use printing::print_number;
+pub use printing::print_numbers;
 ghost use mathlib.Core.Path.{_≡_};
 ghost use mathlib.Core.Bool.{cond};
 ghost use mathlib.Core.List.{map};
 ghost use Prim.Native.Nat.{_+_, _*_, _<_, _≤_};
 ghost use lib.Dec.{ltb};
 ghost use lib.ListN.{length, take, drop};
-ghost use Rattle.io.specs.Counts.{Counts};
 ghost use Rattle.lists.specs.Lists.{upto};
 ghost use Rattle.lists.specs.Rows.{over};
-ghost use Rattle.replay.specs.Hexadecimal.{digitOf, spelled, numberAt, textOf};
+ghost use Rattle.replay.specs.Hexadecimal.{digitOf, spelled, numberAt};
 ghost use Rattle.replay.specs.Filled.{patternAt, doublePatternAt, wordIn, doubleIn};
 
 // ---- reading
@@ -118,70 +122,4 @@ pub fn first<'a>(list: &'a [u32], n: usize) -> &'a [u32]
         return &list[..n];
     }
     list
-}
-
-// ---- printing
-
-// The first `len` bytes are a text.
-pub struct Text {
-    pub bytes: [u8; 16],
-    pub len: usize,
-}
-
-// The bits of x as 16 hexadecimal digits, or nan.
-pub fn double_text(x: f64) -> Text
-    ensures { λ r. ⌜ Counts (r .len) (r .bytes) ⌝ }
-    ensures { λ r. ⌜ take (r .len) (r .bytes) ≡ textOf x ⌝ }
-{
-    let mut bytes = [0u8; 16];
-    if floats::is_nan(x) {
-        bytes[0] = b'n';
-        bytes[1] = b'a';
-        bytes[2] = b'n';
-        return Text { bytes, len: 3 };
-    }
-    let len = io::hex(floats::bits_of(x), 16, &mut bytes);
-    Text { bytes, len }
-}
-
-// A space and a number.
-pub fn print_number(n: u64) {
-    io::write_all(STDOUT_FILENO, b" ");
-    io::print_decimal(STDOUT_FILENO, n);
-}
-
-// A name and a number.
-pub fn print_named(name: &[u8], n: u64) {
-    io::write_all(STDOUT_FILENO, name);
-    print_number(n);
-}
-
-// A space and a double: its bits or nan.
-pub fn print_double(x: f64) {
-    io::write_all(STDOUT_FILENO, b" ");
-    let text = double_text(x);
-    let bytes = text.bytes;
-    let len = text.len;
-    io::write_all(STDOUT_FILENO, &bytes[..len]);
-}
-
-// The end of a line.
-pub fn print_end() {
-    io::write_all(STDOUT_FILENO, b"\n");
-}
-
-// The rest of a line: numbers.
-pub fn print_numbers(list: &[u32]) {
-    for i in 0..list.len() {
-        print_number(list[i] as u64);
-    }
-    print_end();
-}
-
-// The rest of a line: doubles.
-pub fn print_doubles(list: &[f64]) {
-    for i in 0..list.len() {
-        print_double(list[i]);
-    }
-    print_end();
 }

@@ -43,6 +43,6 @@ module _ (input : List ℕ) (c : Counts) (l : Lists) (ls : List Float) (d : Deco
       → Reports input (Done c) s ds ks gs
   done-reports s ds ks gs v =
       let w : Evaluates (facesOf input) (sqLengths input (c .pentachorons) (c .edges)) (replicate 640 zero) (replicate 640 0) (replicate 640 zero) s ds ks gs =
-          subst (λ (p : FaceLists × List Float). Evaluates (p .0) (p .1) (replicate 640 zero) (replicate 640 0) (replicate 640 zero) s ds ks gs)
-          (λ i. (faces-are i, decoded-lengths input c l ls d i)) v in
+      subst (λ (p : FaceLists × List Float). Evaluates (p .0) (p .1) (replicate 640 zero) (replicate 640 0) (replicate 640 zero) s ds ks gs)
+      (λ i. (faces-are i, decoded-lengths input c l ls d i)) v in
       record { answered = d .answered; signs = w .signs; deficits = w .deficits; kinds = w .kinds; gradient = w .gradient }

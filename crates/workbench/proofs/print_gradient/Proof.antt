@@ -1,18 +1,24 @@
--- `replay::print_doubles` is safe: i counts up to the length of the list. Assumes nothing.
+-- `workbench::print_gradient` is safe: i counts up to the length of the gradient. Assumes nothing.
 use Prim.Native.Nat.{_≤_, _-_}
 use lib.ListN.{length}
 use borrow.Author.Needs.{needs}
-use Rattle.replay.proofs.print_doubles.Statement.{statement}
-use Rattle.replay.proofs.print_doubles.Tie as tie
+use Rattle.workbench.proofs.print_gradient.Statement.{statement}
+use Rattle.workbench.proofs.print_gradient.Tie as tie
 
 abbrev Inv-loop : tie.InvT-loop
-Inv-loop list i₀ i-end i = (i ≤ i-end) × (i-end ≤ length list)
+Inv-loop grad i₀ t3 i-end i = (i ≤ i-end) × (i-end ≤ length grad)
 
 abbrev μ-loop : tie.MeasureT-loop
-μ-loop list i₀ i-end i = i-end - i
+μ-loop grad i₀ t3 i-end i = i-end - i
 
 loop-holds : tie.Need-loop-holds Inv-loop μ-loop
 loop-holds c = search needs
+
+slice-aggregate-print-named : tie.Need-slice-aggregate-print-named Inv-loop μ-loop
+slice-aggregate-print-named c = search needs
+
+print-named-requires : tie.Need-print-named-requires Inv-loop μ-loop
+print-named-requires c κs = search needs
 
 mul-print-double : tie.Need-mul-print-double Inv-loop μ-loop
 mul-print-double c = search needs
@@ -23,6 +29,9 @@ shared-slice-read-print-double c = search needs
 print-double-requires : tie.Need-print-double-requires Inv-loop μ-loop
 print-double-requires c κs = search needs
 
+print-end-requires : tie.Need-print-end-requires Inv-loop μ-loop
+print-end-requires c κs = search needs
+
 add-i : tie.Need-add-i Inv-loop μ-loop
 add-i c = search needs
 
@@ -32,24 +41,23 @@ loop-less c = search needs
 loop-again : tie.Need-loop-again Inv-loop μ-loop
 loop-again c = search needs
 
-print-end-requires : tie.Need-print-end-requires Inv-loop μ-loop
-print-end-requires c κs = search needs
-
 returns : tie.Need-returns Inv-loop μ-loop
 returns c = search needs
 
-pub print-doubles-spec : {M : Type 1} → statement M
-print-doubles-spec =
+pub print-gradient-spec : {M : Type 1} → statement M
+print-gradient-spec =
     tie.close
     (tie.spec
     Inv-loop
     μ-loop
     loop-holds
+    slice-aggregate-print-named
+    print-named-requires
     mul-print-double
     shared-slice-read-print-double
     print-double-requires
+    print-end-requires
     add-i
     loop-less
     loop-again
-    print-end-requires
     returns)

@@ -1,10 +1,10 @@
--- `replay::print_numbers` is safe: i counts up to the length of the list. Assumes nothing.
+-- `printing::print_numbers` is safe: i counts up to the length of the list. Assumes nothing.
 use Prim.Native.Nat.{_≤_, _-_}
 use native.Mathlib.Omega.{arith}
 use lib.ListN.{length}
 use borrow.Author.Needs.{needs}
-use Rattle.replay.proofs.print_numbers.Statement.{statement}
-use Rattle.replay.proofs.print_numbers.Tie as tie
+use Rattle.printing.proofs.print_numbers.Statement.{statement}
+use Rattle.printing.proofs.print_numbers.Tie as tie
 
 abbrev Inv-loop : tie.InvT-loop
 Inv-loop list i₀ i-end i = (i ≤ i-end) × (i-end ≤ length list)

@@ -1,4 +1,4 @@
--- `replay::double_text` meets its contract. Assumes nothing.
+-- `printing::double_text` meets its contract. Assumes nothing.
 use Prim.Native.Nat.{ℕ, _-_, _^_, _≤_, _<_}
 use mathlib.Core.Path.{_≡_, refl, sym, _∙_}
 use mathlib.Core.Bool.{true, false}
@@ -9,9 +9,9 @@ use lib.Dec.{lit<, lit≤}
 use lib.Ieee.{isNan}
 use borrow.Author.Needs.{needs}
 use Rattle.io.specs.Digits.{Fewest}
-use Rattle.replay.specs.Hexadecimal.{textOf}
-use Rattle.replay.proofs.double_text.Statement.{statement}
-use Rattle.replay.proofs.double_text.Tie as tie
+use Rattle.printing.specs.Text.{textOf}
+use Rattle.printing.proofs.double_text.Statement.{statement}
+use Rattle.printing.proofs.double_text.Tie as tie
 
 is-nan-requires : tie.Need-is-nan-requires
 is-nan-requires c κs = search needs

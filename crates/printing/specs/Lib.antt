@@ -1,0 +1,2 @@
+-- The definitions that contracts on text cite.
+pub mod Text
