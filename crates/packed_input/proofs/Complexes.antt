@@ -1,10 +1,14 @@
 -- The input's complex, by what its header and the builder say, and its size. Assumes nothing.
-use Prim.Native.Nat.{ℕ, _*_, _/_, _≤_}
+use Prim.Native.Nat.{ℕ, _+_, _*_, _/_, _%_, _≤_}
+use mathlib.Core.Bool.{false, cond, _||_}
 use mathlib.Core.Path.{_≡_, refl, sym, ap, _∙_}
 use mathlib.Core.List.{List}
 use native.Mathlib.Omega.{arith}
+use lib.Dec.{eqb, ltb}
 use lib.ListN.{length, take, length-map}
+use borrow.Author.Tests.{eq-eqb, le-ltb}
 use Rattle.refusals.specs.declared.Refusal.{Refusal}
+use Rattle.refusals.specs.declared.Refusal.the-variants.{VertexCount}
 use Rattle.refusals.specs.declared.Outcome.{Outcome}
 use Rattle.refusals.specs.declared.Outcome.the-variants as Outcome
 use Rattle.lists.specs.Lists.{upto}
@@ -17,7 +21,7 @@ use Rattle.complex.specs.declared.Built.the-variants.{Done, Refused}
 use Rattle.complex.specs.declared.numbering.Face.{Face}
 use Rattle.complex.specs.declared.numbering.Face.the-variants.{Edge, Triangle}
 use Rattle.complex.specs.Complex.{countOf, metFaces, faces, edges, triangles}
-use Rattle.complex.specs.Builder.{sortedPents, checkOf, builtOf, countsOf, Lists, listsAfter, roomsOf, Builds}
+use Rattle.complex.specs.Builder.{pentachorons, sortedPents, offence, isShort, checkOf, builtOf, countsOf, Lists, listsAfter, roomsOf, Builds}
 use Rattle.complex.specs.Check.{roomFor}
 use Rattle.complex.proofs.Meetings.{length-met}
 use Rattle.complex.proofs.SortedPents.{sorted-wide-all, length-sorted-all}
@@ -37,6 +41,12 @@ pub vertices-front : (input given old : List ℕ) (P : ℕ) → P ≡ pentCount 
 vertices-front input given old P e w =
     ap (take (5 * P)) w ∙ over-take (vertices input P) old (5 * P) (length-vertices input P) ∙ ap (vertices input) e
 
+-- 64 pentachorons or fewer have room
+room-enough : (P : ℕ) → P ≤ 64 → isShort P (roomFor 64) ≡ false
+unfolding isShort
+room-enough P h =
+    rw (le-ltb 320 (5 * P) (omega arith), le-ltb 1280 (20 * P) (omega arith), le-ltb 1920 (30 * P) (omega arith), le-ltb 640 (10 * P) (omega arith), le-ltb 641 (10 * P + 1) (omega arith)) refl
+
 -- ---- the answer
 
 module _ (input : List ℕ) where
@@ -49,6 +59,16 @@ module _ (input : List ℕ) where
   pub builder-decides : headerCheckOf input ≡ Outcome.Done → complexCheckOf input ≡ checkOf (vertexCount input) (givenIn input) (roomFor 64)
   unfolding complexCheckOf
   builder-decides e = rw e refl
+
+  -- with room for 64 it refuses nothing but 1, 3 and 4
+  pub builder-refuses : headerCheckOf input ≡ Outcome.Done
+      → complexCheckOf input ≡ cond (eqb (vertexCount input) 0 || ltb 4096 (vertexCount input)) (Outcome.Refused VertexCount) (offence (vertexCount input) 0 (pentachorons (givenIn input)))
+  unfolding checkOf
+  builder-refuses e =
+      let few = header-says input e .1 in
+      let n = length-vertices input (pentCount input) in
+      builder-decides e
+      ∙ rw (eq-eqb (length (givenIn input) % 5) 0 (omega arith), le-ltb 40960 (length (givenIn input)) (omega arith), room-enough (length (givenIn input) / 5) (omega arith)) refl
 
   -- what the builder answers and leaves is the input's complex
   pub builder-answers : (n : ℕ) (given : List ℕ) (before after : Lists) (r : Built) → headerCheckOf input ≡ Outcome.Done → n ≡ vertexCount input → given ≡ givenIn input

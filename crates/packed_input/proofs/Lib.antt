@@ -1,5 +1,6 @@
 -- Laws of the program's input.
 mod Spelling
 mod Refusing
-mod Complexes
+pub mod Complexes
 pub mod DecodedComplex
+pub mod LongInputs
