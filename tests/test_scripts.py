@@ -387,7 +387,7 @@ class ReggeScript(unittest.TestCase):
             shutil.copy(ROOT / name, self.root / name)
         self.put("crates/workbench/stdin", EXAMPLE)
         self.prints(EXAMPLE_LINES)
-        self.put("bin/rt", b'#!/bin/sh\necho "proved: $*"\nmkdir -p target/bin\ncp program target/bin/workbench\n')
+        self.put("bin/rt", b'#!/bin/sh\necho "fn proved"\necho "rt: $*"\nmkdir -p target/bin\ncp program target/bin/workbench\n')
 
     def put(self, name, content):
         """Writes a file of the folder, which can be run."""
@@ -408,7 +408,7 @@ class ReggeScript(unittest.TestCase):
 
     def test_example(self):
         done = self.regge()
-        self.assertEqual((done.returncode, done.stderr), (0, b"proved: check workbench\n"))
+        self.assertEqual((done.returncode, done.stderr), (0, b"rt: check workbench\n"))
         self.assertEqual(done.stdout.decode(), regge.render(regge.read_output(EXAMPLE_LINES), packed.unpack(EXAMPLE)))
         self.assertEqual((self.root / "seen").read_bytes(), EXAMPLE)
 
@@ -419,7 +419,7 @@ class ReggeScript(unittest.TestCase):
 
     def test_built_where_missing(self):
         done = self.regge("-", data=EXAMPLE)
-        self.assertEqual((done.returncode, done.stderr), (0, b"proved: check workbench\n"))
+        self.assertEqual((done.returncode, done.stderr), (0, b"rt: check workbench\n"))
 
     def test_file_and_text(self):
         self.assertEqual(self.regge(self.root / "crates/workbench/stdin").returncode, 0)
