@@ -1,22 +1,13 @@
 -- The builder and the check of a complex as they are exported: numbers, place and counts in plain numbers. Definitions only.
 use Prim.Native.Nat.{ℕ}
 use mathlib.Core.Path.{_≡_}
-use mathlib.Core.List.{List, [], _∷_}
-use lib.ListN.{getD}
+use mathlib.Core.List.{List}
 use Rattle.refusals.specs.declared.Outcome.{Outcome}
 use Rattle.refusals.specs.Refusals.{outcomeNumber}
 use Rattle.complex.specs.Check as Check
 use Rattle.complex.specs.declared.Built as Complex
-use Rattle.complex.specs.declared.Counts.{Counts}
 use Rattle.complex.specs.Builder.{builtNumber, builtPlace, countsOr, Lists, Builds}
-
--- counts as numbers
-abbrev pub countsList : Counts → List ℕ
-countsList c = c .vertices ∷ c .pentachorons ∷ c .edges ∷ c .triangles ∷ c .tets ∷ []
-
--- five numbers as counts
-abbrev pub countsOfList : List ℕ → Counts
-countsOfList c = record { vertices = getD c 0 0; pentachorons = getD c 1 0; edges = getD c 2 0; triangles = getD c 3 0; tets = getD c 4 0 }
+use Rattle.plain_counts.specs.Counts.{countsList, countsOfList}
 
 -- the builder at vertex count n and a pentachoron list: its answer in plain numbers, and the lists, counts and place after it
 pub record Built (n : ℕ) (given : List ℕ) (before : Lists) (counts : List ℕ) (r : ℕ) (after : Lists) (counts′ : List ℕ) (place : ℕ) : Type 0 where

@@ -10,7 +10,7 @@ use Rattle.foliation.specs.declared.Listed as Foliation
 use Rattle.foliation.specs.Listing as Listing
 use Rattle.foliation.specs.Listing.{listedNumber, countOr}
 use Rattle.foliation.specs.OnLattice as OnLattice
-use Rattle.exports.specs.Complexes.{countsOfList}
+use Rattle.plain_counts.specs.Counts.{countsOfList}
 
 -- two sizes as a lattice
 abbrev pub latticeOf : ℕ → ℕ → Lattice

@@ -1,6 +1,4 @@
 -- The definitions that contracts of exported functions cite.
 pub mod Complexes
 pub mod Lattices
-pub mod Hinges
-pub mod Local
-pub mod Retouching
+pub mod Signs

@@ -4,7 +4,6 @@ mod regge;
 mod retouching;
 
 use comparison::check_built;
-use complex::Counts;
 use complex::from_pentachorons;
 use foliation::Lattice;
 use foliation::edge_types;
@@ -13,6 +12,8 @@ use foliation::foliated_hypercubic;
 use geometry::cofactor_6x6;
 use lorentzian::all_lorentzian_dihedrals;
 use lorentzian::lorentzian_dihedral;
+use plain_counts::counts_list;
+use plain_counts::counts_of;
 ghost use mathlib.Core.Path.{_≡_};
 ghost use mathlib.Core.List.{map};
 ghost use Rattle.refusals.specs.Refusals.{outcomeNumber};
@@ -27,7 +28,8 @@ ghost use Rattle.fdlibm.specs.Asinh.{asinhOf};
 ghost use Rattle.complex.specs.Builder.{lists};
 ghost use Rattle.complex.specs.Check.{edgesIn};
 ghost use Rattle.foliation.specs.Edges.{typesOf, lengthsOf};
-ghost use Rattle.exports.specs.Complexes.{countsOfList, countsList, Built, Checked};
+ghost use Rattle.plain_counts.specs.Counts.{countsOfList};
+ghost use Rattle.exports.specs.Complexes.{Built, Checked};
 ghost use Rattle.exports.specs.Lattices.{latticeOf, Listed, Filled};
 ghost use Rattle.geometry.specs.CayleyMenger.{cm, cofactors};
 ghost use Rattle.geometry.specs.Answer as Cofactor;
@@ -419,24 +421,4 @@ fn lattice_of(n_t: usize, n_s: usize) -> Lattice
     ensures { λ r. ⌜ r ≡ latticeOf «n_t» «n_s» ⌝ }
 {
     Lattice { n_t: n_t, n_s: n_s }
-}
-
-// Five numbers as counts.
-fn counts_of(c: [usize; 5]) -> Counts
-    ensures { λ r. ⌜ r ≡ countsOfList c ⌝ }
-{
-    Counts {
-        vertices: c[0],
-        pentachorons: c[1],
-        edges: c[2],
-        triangles: c[3],
-        tets: c[4],
-    }
-}
-
-// Counts as five numbers.
-fn counts_list(c: Counts) -> [usize; 5]
-    ensures { λ r. ⌜ r ≡ countsList c ⌝ }
-{
-    [c.vertices, c.pentachorons, c.edges, c.triangles, c.tets]
 }

@@ -1,16 +1,16 @@
 // Local deficits, local gradient and local Hessian for C. A refused call returns the refusal's number, whose place is 0, and changes
 // nothing; an answer returns 0. A kind is 0 for Spacelike and 1 for Timelike.
-use crate::counts_of;
 use lorentzian_regge::local_deficit_angles;
 use lorentzian_regge::local_lorentzian_regge_action_grad;
 use lorentzian_regge::local_lorentzian_regge_hessian;
+use plain_counts::counts_of;
 ghost use lib.ListN.{length};
 ghost use Prim.Native.Nat.{_*_};
 ghost use Rattle.complex.specs.Builder.{lists};
 ghost use Rattle.hessian.specs.Hessian.{localHessian};
 ghost use Rattle.hinges.specs.Local.{localGradient};
-ghost use Rattle.exports.specs.Hinges.{facesLent};
-ghost use Rattle.exports.specs.Local.{LocalTable, LocalFill};
+ghost use Rattle.plain_counts.specs.Hinges.{facesLent, checking};
+ghost use Rattle.plain_counts.specs.Local.{LocalTable, LocalFill};
 
 // `count` gets how many hinges there are.
 #[no_mangle]
@@ -33,7 +33,7 @@ pub extern "C" fn cjapthumi_local_deficit_angles<'a>(
     kinds: &mut [u8],
     count: &mut usize,
 ) -> u32
-    ensures { λ r. ⌜ LocalTable (now (counts .entry)) (lists (now (pents .entry)) (now (edges .entry)) (now (triangles .entry)) (now (tets .entry))
+    ensures { λ r. ⌜ LocalTable checking (now (counts .entry)) (lists (now (pents .entry)) (now (edges .entry)) (now (triangles .entry)) (now (tets .entry))
         (now («tri_to_pents_items» .entry)) (now («tri_to_pents_starts» .entry)) (now («edge_to_tris_items» .entry)) (now («edge_to_tris_starts» .entry))
         (now («edge_to_pents_items» .entry)) (now («edge_to_pents_starts» .entry)))
         (now («sq_lengths» .entry)) (now («free_edges» .entry)) (now (tris .entry)) (now (deficits .entry)) (now (kinds .entry)) (now (count .entry)) r (now (tris .exit)) (now (deficits .exit)) (now (kinds .exit)) (now (count .exit)) ⌝ }
@@ -77,7 +77,7 @@ pub extern "C" fn cjapthumi_local_lorentzian_regge_action_grad<'a>(
     free_edges: &'a [u32],
     grad: &mut [f64],
 ) -> u32
-    ensures { λ r. ⌜ LocalFill (now (counts .entry)) (lists (now (pents .entry)) (now (edges .entry)) (now (triangles .entry)) (now (tets .entry))
+    ensures { λ r. ⌜ LocalFill checking (now (counts .entry)) (lists (now (pents .entry)) (now (edges .entry)) (now (triangles .entry)) (now (tets .entry))
         (now («tri_to_pents_items» .entry)) (now («tri_to_pents_starts» .entry)) (now («edge_to_tris_items» .entry)) (now («edge_to_tris_starts» .entry))
         (now («edge_to_pents_items» .entry)) (now («edge_to_pents_starts» .entry)))
         (now («sq_lengths» .entry)) (now («free_edges» .entry)) (length (now («free_edges» .entry)))
@@ -123,7 +123,7 @@ pub extern "C" fn cjapthumi_local_lorentzian_regge_hessian<'a>(
     fd_eps: f64,
     hessian: &mut [f64],
 ) -> u32
-    ensures { λ r. ⌜ LocalFill (now (counts .entry)) (lists (now (pents .entry)) (now (edges .entry)) (now (triangles .entry)) (now (tets .entry))
+    ensures { λ r. ⌜ LocalFill checking (now (counts .entry)) (lists (now (pents .entry)) (now (edges .entry)) (now (triangles .entry)) (now (tets .entry))
         (now («tri_to_pents_items» .entry)) (now («tri_to_pents_starts» .entry)) (now («edge_to_tris_items» .entry)) (now («edge_to_tris_starts» .entry))
         (now («edge_to_pents_items» .entry)) (now («edge_to_pents_starts» .entry)))
         (now («sq_lengths» .entry)) (now («free_edges» .entry)) (length (now («free_edges» .entry)) * length (now («free_edges» .entry)))

@@ -1,6 +1,5 @@
 // Hinges, action, gradient and length signs for C. A refused call returns the refusal's number, whose place is 0, and changes
 // nothing; an answer returns 0. A kind is 0 for Spacelike and 1 for Timelike.
-use crate::counts_of;
 use complex::TriangleNumber;
 use lorentzian_regge::LengthSigns;
 use lorentzian_regge::length_signs;
@@ -8,10 +7,12 @@ use lorentzian_regge::lorentzian_deficit_angle;
 use lorentzian_regge::lorentzian_deficit_angles;
 use lorentzian_regge::lorentzian_regge_action;
 use lorentzian_regge::lorentzian_regge_action_grad;
+use plain_counts::counts_of;
 ghost use mathlib.Core.Path.{_≡_};
 ghost use Rattle.complex.specs.Builder.{lists};
 ghost use Rattle.lorentzian_regge.specs.LengthSigns.{signsOf};
-ghost use Rattle.exports.specs.Hinges.{Tabled, HingeCall, ActionCall, Graded, signsList};
+ghost use Rattle.plain_counts.specs.Hinges.{checking, Tabled, HingeCall, ActionCall, Graded};
+ghost use Rattle.exports.specs.Signs.{signsList};
 
 #[no_mangle]
 pub extern "C" fn cjapthumi_lorentzian_deficit_angles<'a>(
@@ -30,7 +31,7 @@ pub extern "C" fn cjapthumi_lorentzian_deficit_angles<'a>(
     deficits: &mut [f64],
     kinds: &mut [u8],
 ) -> u32
-    ensures { λ r. ⌜ Tabled (now (counts .entry)) (lists (now (pents .entry)) (now (edges .entry)) (now (triangles .entry)) (now (tets .entry))
+    ensures { λ r. ⌜ Tabled checking (now (counts .entry)) (lists (now (pents .entry)) (now (edges .entry)) (now (triangles .entry)) (now (tets .entry))
         (now («tri_to_pents_items» .entry)) (now («tri_to_pents_starts» .entry)) (now («edge_to_tris_items» .entry)) (now («edge_to_tris_starts» .entry))
         (now («edge_to_pents_items» .entry)) (now («edge_to_pents_starts» .entry)))
         (now («sq_lengths» .entry)) (now (deficits .entry)) (now (kinds .entry)) r (now (deficits .exit)) (now (kinds .exit)) ⌝ }
@@ -72,7 +73,7 @@ pub extern "C" fn cjapthumi_lorentzian_deficit_angle<'a>(
     deficit: &mut f64,
     kind: &mut u8,
 ) -> u32
-    ensures { λ r. ⌜ HingeCall (now (counts .entry)) (lists (now (pents .entry)) (now (edges .entry)) (now (triangles .entry)) (now (tets .entry))
+    ensures { λ r. ⌜ HingeCall checking (now (counts .entry)) (lists (now (pents .entry)) (now (edges .entry)) (now (triangles .entry)) (now (tets .entry))
         (now («tri_to_pents_items» .entry)) (now («tri_to_pents_starts» .entry)) (now («edge_to_tris_items» .entry)) (now («edge_to_tris_starts» .entry))
         (now («edge_to_pents_items» .entry)) (now («edge_to_pents_starts» .entry)))
         (now («sq_lengths» .entry)) tri (now (deficit .entry)) (now (kind .entry)) r (now (deficit .exit)) (now (kind .exit)) ⌝ }
@@ -113,7 +114,7 @@ pub extern "C" fn cjapthumi_lorentzian_regge_action<'a>(
     sq_lengths: &'a [f64],
     action: &mut f64,
 ) -> u32
-    ensures { λ r. ⌜ ActionCall (now (counts .entry)) (lists (now (pents .entry)) (now (edges .entry)) (now (triangles .entry)) (now (tets .entry))
+    ensures { λ r. ⌜ ActionCall checking (now (counts .entry)) (lists (now (pents .entry)) (now (edges .entry)) (now (triangles .entry)) (now (tets .entry))
         (now («tri_to_pents_items» .entry)) (now («tri_to_pents_starts» .entry)) (now («edge_to_tris_items» .entry)) (now («edge_to_tris_starts» .entry))
         (now («edge_to_pents_items» .entry)) (now («edge_to_pents_starts» .entry)))
         (now («sq_lengths» .entry)) (now (action .entry)) r (now (action .exit)) ⌝ }
@@ -152,7 +153,7 @@ pub extern "C" fn cjapthumi_lorentzian_regge_action_grad<'a>(
     sq_lengths: &'a [f64],
     grad: &mut [f64],
 ) -> u32
-    ensures { λ r. ⌜ Graded (now (counts .entry)) (lists (now (pents .entry)) (now (edges .entry)) (now (triangles .entry)) (now (tets .entry))
+    ensures { λ r. ⌜ Graded checking (now (counts .entry)) (lists (now (pents .entry)) (now (edges .entry)) (now (triangles .entry)) (now (tets .entry))
         (now («tri_to_pents_items» .entry)) (now («tri_to_pents_starts» .entry)) (now («edge_to_tris_items» .entry)) (now («edge_to_tris_starts» .entry))
         (now («edge_to_pents_items» .entry)) (now («edge_to_pents_starts» .entry)))
         (now («sq_lengths» .entry)) (now (grad .entry)) r (now (grad .exit)) ⌝ }

@@ -1,10 +1,11 @@
 // The retouch for C. A refused call returns the refusal's number, whose place is 0, and changes nothing; an answer returns 0. A kind is
 // 0 for Spacelike and 1 for Timelike.
-use crate::counts_of;
 use complex::EdgeNumber;
+use plain_counts::counts_of;
 use retouch::retouch;
 ghost use Rattle.complex.specs.Builder.{lists};
-ghost use Rattle.exports.specs.Retouching.{TableRetouch};
+ghost use Rattle.plain_counts.specs.Hinges.{checking};
+ghost use Rattle.plain_counts.specs.Retouching.{TableRetouch};
 
 // Stores `sq_length` at `edge` and brings the deficits and kinds up to date.
 #[no_mangle]
@@ -26,7 +27,7 @@ pub extern "C" fn cjapthumi_retouch<'a>(
     deficits: &mut [f64],
     kinds: &mut [u8],
 ) -> u32
-    ensures { λ r. ⌜ TableRetouch (now (counts .entry)) (lists (now (pents .entry)) (now (edges .entry)) (now (triangles .entry)) (now (tets .entry))
+    ensures { λ r. ⌜ TableRetouch checking (now (counts .entry)) (lists (now (pents .entry)) (now (edges .entry)) (now (triangles .entry)) (now (tets .entry))
         (now («tri_to_pents_items» .entry)) (now («tri_to_pents_starts» .entry)) (now («edge_to_tris_items» .entry)) (now («edge_to_tris_starts» .entry))
         (now («edge_to_pents_items» .entry)) (now («edge_to_pents_starts» .entry)))
         (now («sq_lengths» .entry)) edge «sq_length» (now (deficits .entry)) (now (kinds .entry)) r (now («sq_lengths» .exit)) (now (deficits .exit)) (now (kinds .exit)) ⌝ }

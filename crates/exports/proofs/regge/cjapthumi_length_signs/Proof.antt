@@ -1,7 +1,7 @@
 -- `exports::regge::cjapthumi_length_signs` meets its contract. Assumes nothing.
 use mathlib.Core.Path.{ap, _∙_}
 use borrow.Author.Needs.{needs}
-use Rattle.exports.specs.Hinges.{signsList}
+use Rattle.exports.specs.Signs.{signsList}
 use Rattle.exports.proofs.regge.cjapthumi_length_signs.Statement.{statement}
 use Rattle.exports.proofs.regge.cjapthumi_length_signs.Tie as tie
 

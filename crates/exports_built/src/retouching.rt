@@ -1,0 +1,63 @@
+// The retouch of a built complex for C.
+use complex::EdgeNumber;
+use plain_counts::counts_of;
+use retouch::retouch_built;
+ghost use Rattle.complex.specs.Builder.{lists};
+ghost use Rattle.lorentzian_regge.specs.Calls.{BuiltWith};
+ghost use Rattle.plain_counts.specs.Counts.{countsOfList};
+ghost use Rattle.plain_counts.specs.Hinges.{trusting};
+ghost use Rattle.plain_counts.specs.Retouching.{TableRetouch};
+
+// Stores `sq_length` at `edge` and brings the deficits and kinds up to date.
+#[no_mangle]
+pub extern "C" fn cjapthumi_retouch_built<'a>(
+    counts: &'a [usize; 5],
+    pents: &'a [u32],
+    edges: &'a [u32],
+    triangles: &'a [u32],
+    tets: &'a [u32],
+    tri_to_pents_items: &'a [u32],
+    tri_to_pents_starts: &'a [u32],
+    edge_to_tris_items: &'a [u32],
+    edge_to_tris_starts: &'a [u32],
+    edge_to_pents_items: &'a [u32],
+    edge_to_pents_starts: &'a [u32],
+    pent_edges: &'a [u32],
+    pent_tris: &'a [u32],
+    sq_lengths: &mut [f64],
+    edge: u32,
+    sq_length: f64,
+    deficits: &mut [f64],
+    kinds: &mut [u8],
+) -> u32
+    requires { ⌜ BuiltWith (countsOfList (now counts)) (lists (now pents) (now edges) (now triangles) (now tets)
+        (now «tri_to_pents_items») (now «tri_to_pents_starts») (now «edge_to_tris_items») (now «edge_to_tris_starts»)
+        (now «edge_to_pents_items») (now «edge_to_pents_starts»))
+        (now «pent_edges») (now «pent_tris») ⌝ }
+    ensures { λ r. ⌜ TableRetouch trusting (now (counts .entry)) (lists (now (pents .entry)) (now (edges .entry)) (now (triangles .entry)) (now (tets .entry))
+        (now («tri_to_pents_items» .entry)) (now («tri_to_pents_starts» .entry)) (now («edge_to_tris_items» .entry)) (now («edge_to_tris_starts» .entry))
+        (now («edge_to_pents_items» .entry)) (now («edge_to_pents_starts» .entry)))
+        (now («sq_lengths» .entry)) edge «sq_length» (now (deficits .entry)) (now (kinds .entry)) r (now («sq_lengths» .exit)) (now (deficits .exit)) (now (kinds .exit)) ⌝ }
+{
+    let answer = retouch_built(
+        counts_of(*counts),
+        pents,
+        edges,
+        triangles,
+        tets,
+        tri_to_pents_items,
+        tri_to_pents_starts,
+        edge_to_tris_items,
+        edge_to_tris_starts,
+        edge_to_pents_items,
+        edge_to_pents_starts,
+        pent_edges,
+        pent_tris,
+        sq_lengths,
+        EdgeNumber(edge),
+        sq_length,
+        deficits,
+        kinds,
+    );
+    answer.number()
+}
