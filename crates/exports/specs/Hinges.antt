@@ -7,14 +7,15 @@ use lib.Ieee.{Float}
 use Rattle.refusals.specs.declared.Outcome.{Outcome}
 use Rattle.refusals.specs.declared.Outcome.the-variants.{Done}
 use Rattle.refusals.specs.Refusals.{outcomeNumber}
+use Rattle.length_signs.specs.declared.LengthSigns.{LengthSigns}
 use Rattle.complex.specs.Builder.{Lists}
 use Rattle.hinges.specs.Hinges.{FaceLists, facesIn, hinges, hingeIn}
 use Rattle.hinges.specs.Action as Action
-use Rattle.lorentzian_regge.specs.declared.signs.LengthSigns.{LengthSigns}
+use Rattle.calls.specs.Calls.{lengthsCheckOf, builtCheckOf, roomCheckOf, triangleCheckOf, shortTable}
+use Rattle.lorentzian_regge.specs.Answers as Answers
 use Rattle.lorentzian_regge.specs.declared.deficits.HingeAnswer.{HingeAnswer}
 use Rattle.lorentzian_regge.specs.declared.action.ActionAnswer.{ActionAnswer}
-use Rattle.lorentzian_regge.specs.Calls as Calls
-use Rattle.lorentzian_regge.specs.Calls.{lengthsCheckOf, builtCheckOf, roomCheckOf, triangleCheckOf, shortTable, shortGradient, hingeBy, hingeNumber, deficitOr, kindByteOr, actionBy, actionNumber, actionOr}
+use Rattle.lorentzian_regge.specs.Answers.{shortGradient, hingeBy, hingeNumber, deficitOr, kindByteOr, actionBy, actionNumber, actionOr}
 use Rattle.exports.specs.Complexes.{countsOfList}
 
 -- the face lists of a complex with its counts in plain numbers
@@ -28,7 +29,7 @@ callCheckOf counts l ls others = builtCheckOf (countsOfList counts) l (lengthsCh
 -- all hinges: the answer as a number, and both lists after the call
 pub record Tabled (counts : List ℕ) (l : Lists) (ls ds : List Float) (ks : List ℕ) (r : ℕ) (ds′ : List Float) (ks′ : List ℕ) : Type 0 where
   pub answer : Outcome
-  pub tabled : Calls.Tabled (callCheckOf counts l ls (roomCheckOf (shortTable (countsOfList counts) (length ds) (length ks)))) (facesLent counts l) ls ds ks answer ds′ ks′
+  pub tabled : Answers.Tabled (callCheckOf counts l ls (roomCheckOf (shortTable (countsOfList counts) (length ds) (length ks)))) (facesLent counts l) ls ds ks answer ds′ ks′
   pub numbered : r ≡ outcomeNumber answer
 
 -- one hinge: the answer as a number, and the deficit and the kind's byte after the call
@@ -49,7 +50,7 @@ pub record ActionCall (counts : List ℕ) (l : Lists) (ls : List Float) (action 
 -- the gradient: the answer as a number, and the list after the call
 pub record Graded (counts : List ℕ) (l : Lists) (ls grad : List Float) (r : ℕ) (grad′ : List Float) : Type 0 where
   pub answer : Outcome
-  pub graded : Calls.Graded (callCheckOf counts l ls (roomCheckOf (shortGradient (countsOfList counts) (length grad)))) (facesLent counts l) ls grad answer grad′
+  pub graded : Answers.Graded (callCheckOf counts l ls (roomCheckOf (shortGradient (countsOfList counts) (length grad)))) (facesLent counts l) ls grad answer grad′
   pub numbered : r ≡ outcomeNumber answer
 
 -- the counts of signs as numbers

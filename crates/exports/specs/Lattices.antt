@@ -9,7 +9,7 @@ use Rattle.foliation.specs.declared.Lattice.{Lattice}
 use Rattle.foliation.specs.declared.Listed as Foliation
 use Rattle.foliation.specs.Listing as Listing
 use Rattle.foliation.specs.Listing.{listedNumber, countOr}
-use Rattle.foliation.specs.OnLattice as OnLattice
+use Rattle.lattice_edges.specs.OnLattice as OnLattice
 use Rattle.exports.specs.Complexes.{countsOfList}
 
 -- two sizes as a lattice

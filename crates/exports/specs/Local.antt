@@ -8,8 +8,9 @@ use lib.ListN.{length}
 use Rattle.refusals.specs.declared.Outcome.{Outcome}
 use Rattle.refusals.specs.Refusals.{outcomeNumber}
 use Rattle.complex.specs.Builder.{Lists}
-use Rattle.lorentzian_regge.specs.declared.local_deficits.LocalAnswer.{LocalAnswer}
-use Rattle.lorentzian_regge.specs.Calls.{freeCheckOf, roomCheckOf, shortLocal, countNumber, countOr, LocallyTabled, Filled}
+use Rattle.calls.specs.declared.LocalAnswer.{LocalAnswer}
+use Rattle.calls.specs.Calls.{freeCheckOf, roomCheckOf, countNumber, countOr, Filled}
+use Rattle.local_regge.specs.LocalCalls.{shortLocal, LocallyTabled}
 use Rattle.exports.specs.Complexes.{countsOfList}
 use Rattle.exports.specs.Hinges.{facesLent, callCheckOf}
 

@@ -7,7 +7,7 @@ use lib.ListN.{length}
 use Rattle.refusals.specs.declared.Outcome.{Outcome}
 use Rattle.refusals.specs.Refusals.{outcomeNumber}
 use Rattle.complex.specs.Builder.{Lists}
-use Rattle.lorentzian_regge.specs.Calls.{roomCheckOf, shortTable}
+use Rattle.calls.specs.Calls.{roomCheckOf, shortTable}
 use Rattle.retouch.specs.Retouch.{edgeCheckOf, Retouched}
 use Rattle.exports.specs.Complexes.{countsOfList}
 use Rattle.exports.specs.Hinges.{facesLent, callCheckOf}

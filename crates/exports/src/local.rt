@@ -1,14 +1,14 @@
 // Local deficits, local gradient and local Hessian for C. A refused call returns the refusal's number, whose place is 0, and changes
 // nothing; an answer returns 0. A kind is 0 for Spacelike and 1 for Timelike.
 use crate::counts_of;
-use lorentzian_regge::local_deficit_angles;
-use lorentzian_regge::local_lorentzian_regge_action_grad;
-use lorentzian_regge::local_lorentzian_regge_hessian;
+use local_regge::local_deficit_angles;
+use local_regge::local_lorentzian_regge_action_grad;
+use local_regge::local_lorentzian_regge_hessian;
 ghost use lib.ListN.{length};
 ghost use Prim.Native.Nat.{_*_};
 ghost use Rattle.complex.specs.Builder.{lists};
-ghost use Rattle.hessian.specs.Hessian.{localHessian};
 ghost use Rattle.hinges.specs.Local.{localGradient};
+ghost use Rattle.hessian.specs.Hessian.{localHessian};
 ghost use Rattle.exports.specs.Hinges.{facesLent};
 ghost use Rattle.exports.specs.Local.{LocalTable, LocalFill};
 

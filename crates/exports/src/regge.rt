@@ -1,16 +1,16 @@
 // Hinges, action, gradient and length signs for C. A refused call returns the refusal's number, whose place is 0, and changes
 // nothing; an answer returns 0. A kind is 0 for Spacelike and 1 for Timelike.
 use crate::counts_of;
-use complex::TriangleNumber;
-use lorentzian_regge::LengthSigns;
-use lorentzian_regge::length_signs;
+use incidence::TriangleNumber;
+use length_signs::LengthSigns;
+use length_signs::length_signs;
 use lorentzian_regge::lorentzian_deficit_angle;
 use lorentzian_regge::lorentzian_deficit_angles;
 use lorentzian_regge::lorentzian_regge_action;
 use lorentzian_regge::lorentzian_regge_action_grad;
 ghost use mathlib.Core.Path.{_≡_};
+ghost use Rattle.length_signs.specs.LengthSigns.{signsOf};
 ghost use Rattle.complex.specs.Builder.{lists};
-ghost use Rattle.lorentzian_regge.specs.LengthSigns.{signsOf};
 ghost use Rattle.exports.specs.Hinges.{Tabled, HingeCall, ActionCall, Graded, signsList};
 
 #[no_mangle]

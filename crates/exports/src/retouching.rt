@@ -1,7 +1,7 @@
 // The retouch for C. A refused call returns the refusal's number, whose place is 0, and changes nothing; an answer returns 0. A kind is
 // 0 for Spacelike and 1 for Timelike.
 use crate::counts_of;
-use complex::EdgeNumber;
+use incidence::EdgeNumber;
 use retouch::retouch;
 ghost use Rattle.complex.specs.Builder.{lists};
 ghost use Rattle.exports.specs.Retouching.{TableRetouch};

@@ -11,7 +11,7 @@ const LINE: usize = 17;
 fn print_answer(input: u64, name: &[u8], answer: f64) {
     io::print_hex(STDOUT_FILENO, input, 16);
     io::write_all(STDOUT_FILENO, name);
-    let text = replay::double_text(answer);
+    let text = printing::double_text(answer);
     let bytes = text.bytes;
     let len = text.len;
     io::write_all(STDOUT_FILENO, &bytes[..len]);
