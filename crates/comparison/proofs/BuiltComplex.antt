@@ -18,7 +18,7 @@ use Rattle.lists.proofs.Sorting.{sort-rising, sort-mem, rising-ascending, risin
 use Rattle.complex.specs.declared.Counts.{Counts}
 use Rattle.complex.specs.declared.checks.Rooms.{Rooms}
 use Rattle.complex.specs.declared.numbering.Face.the-variants.{Edge, Triangle, Tet}
-use Rattle.complex.specs.Incidence.{Tens, Simplices, Lie}
+use Rattle.incidence.specs.Incidence.{Tens, Simplices, Lie}
 use Rattle.complex.specs.Complex.{numbersOf, edges, triangles, triToPents, edgeToTris, edgeToPents}
 use Rattle.complex.specs.Builder.{pentachorons, sortedPents, offence, isShort, checkOf, builtOf, countsOf, Lists, written}
 use Rattle.complex.specs.Check.{pentsIn, edgesIn, trianglesIn, givenOf, roomFor, answerFor, sameCounts, answers, beginAll, isBuilt, holds}
@@ -27,7 +27,7 @@ use Rattle.complex.proofs.Offences.{or-false, offence-done, once-of, check-done
 use Rattle.complex.proofs.Laws.{all-sorted, not-large, all-below, no-repeat, no-offence}
 use Rattle.comparison.proofs.FaceLists.{HasFaces, has-rows}
 use Rattle.complex.proofs.Lying.{Sorted}
-use Rattle.complex.proofs.Incident.{edge-numbers, triangle-numbers, simplices-of, lie-of}
+use Rattle.incidence.proofs.Incident.{edge-numbers, triangle-numbers, simplices-of, lie-of}
 use Rattle.comparison.proofs.Rises.{RisesBelow, AllRise}
 
 -- what holds of the counts and lists of a built complex

@@ -5,7 +5,5 @@ pub mod Meetings
 pub mod TriangleEdges
 pub mod Lying
 pub mod FaceNumbers
-pub mod Incident
-pub mod Whole
 pub mod Laws
 pub mod Pushing

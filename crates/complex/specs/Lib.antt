@@ -4,4 +4,3 @@ pub mod Builder
 pub mod Check
 pub mod Parts
 pub mod Pushed
-pub mod Incidence

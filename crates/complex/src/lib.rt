@@ -1,32 +1,22 @@
-// The complex of a list of pentachorons: faces numbered by first meeting, adjacency lists, and incidence.
-mod adjacency;
-mod builder;
+// The complex of a list of pentachorons: faces numbered by first meeting, and adjacency lists.
+mod adjacency_lists;
 mod checks;
-mod incidence;
 mod numbering;
 mod sorting;
 
-use checks::Rooms;
+pub use adjacency_lists::adjacency;
+pub use adjacency_lists::edge_at;
+pub use checks::Rooms;
+pub use checks::check;
 pub use checks::has;
 pub use checks::too_large;
-pub use incidence::EdgeNumber;
-pub use incidence::Opposite;
-pub use incidence::PentachoronNumber;
-pub use incidence::TriangleEdges;
-pub use incidence::TriangleNumber;
-pub use incidence::opposite_local_indices;
-pub use incidence::pent_edge_indices;
-pub use incidence::pent_tri_indices;
-pub use incidence::pents_of_edge;
-pub use incidence::pents_of_triangle;
-pub use incidence::tri_edge_indices;
-pub use incidence::tris_of_edge;
 pub use numbering::Face;
-use refusals::Outcome;
+pub use numbering::number_all;
 use refusals::Refusal;
+pub use sorting::sort_all;
 pub use sorting::sorted;
 ghost use mathlib.Core.Path.{_≡_};
-ghost use Rattle.complex.specs.Builder.{builtNumber, builtPlace, countsOr, lists, Builds};
+ghost use Rattle.complex.specs.Builder.{builtNumber, builtPlace, countsOr};
 
 // How many of each kind a complex has.
 pub struct Counts {
@@ -72,61 +62,5 @@ impl Built {
             Built::Done(counts) => counts,
             Built::Refused(_) => other,
         }
-    }
-}
-
-// `SimplicialComplex::from_pentachorons`: each pentachoron sorted; edges, triangles and tets numbered by first meeting; adjacency
-// lists as items and starts. A refused call leaves every list as it was; otherwise the places that are not written are kept.
-pub fn from_pentachorons(
-    n_vertices: usize,
-    given: &[u32],
-    pents: &mut [u32],
-    edges: &mut [u32],
-    triangles: &mut [u32],
-    tets: &mut [u32],
-    tri_to_pents_items: &mut [u32],
-    tri_to_pents_starts: &mut [u32],
-    edge_to_tris_items: &mut [u32],
-    edge_to_tris_starts: &mut [u32],
-    edge_to_pents_items: &mut [u32],
-    edge_to_pents_starts: &mut [u32],
-) -> Built
-    ensures { λ r. ⌜ Builds «n_vertices» (now (given .entry))
-        (lists (now (pents .entry)) (now (edges .entry)) (now (triangles .entry)) (now (tets .entry))
-        (now («tri_to_pents_items» .entry)) (now («tri_to_pents_starts» .entry)) (now («edge_to_tris_items» .entry)) (now («edge_to_tris_starts» .entry))
-        (now («edge_to_pents_items» .entry)) (now («edge_to_pents_starts» .entry)))
-        r
-        (lists (now (pents .exit)) (now (edges .exit)) (now (triangles .exit)) (now (tets .exit))
-        (now («tri_to_pents_items» .exit)) (now («tri_to_pents_starts» .exit)) (now («edge_to_tris_items» .exit)) (now («edge_to_tris_starts» .exit))
-        (now («edge_to_pents_items» .exit)) (now («edge_to_pents_starts» .exit))) ⌝ }
-{
-    let rooms = Rooms {
-        pents: pents.len(),
-        edges: edges.len(),
-        triangles: triangles.len(),
-        tets: tets.len(),
-        tri_to_pents_items: tri_to_pents_items.len(),
-        tri_to_pents_starts: tri_to_pents_starts.len(),
-        edge_to_tris_items: edge_to_tris_items.len(),
-        edge_to_tris_starts: edge_to_tris_starts.len(),
-        edge_to_pents_items: edge_to_pents_items.len(),
-        edge_to_pents_starts: edge_to_pents_starts.len(),
-    };
-    match checks::check(n_vertices, given, rooms) {
-        Outcome::Refused(refusal) => Built::Refused(refusal),
-        Outcome::Done => Built::Done(builder::build(
-            n_vertices,
-            given,
-            pents,
-            edges,
-            triangles,
-            tets,
-            tri_to_pents_items,
-            tri_to_pents_starts,
-            edge_to_tris_items,
-            edge_to_tris_starts,
-            edge_to_pents_items,
-            edge_to_pents_starts,
-        )),
     }
 }

@@ -2,8 +2,8 @@
 use lists::meet_rows;
 ghost use mathlib.Core.Path.{_≡_};
 ghost use mathlib.Core.List.{[], _∷_, _++_, map};
-ghost use Prim.Native.Nat.{_+_, _*_, _/_, _≤_};
-ghost use lib.ListN.{length, getD, take, drop};
+ghost use Prim.Native.Nat.{_+_, _*_, _-_, _/_, _≤_};
+ghost use lib.ListN.{length, getD, take, drop, replicate};
 ghost use Rattle.lists.specs.Lists.{upto};
 ghost use Rattle.lists.specs.Rows.{rows};
 ghost use Rattle.complex.specs.Complex.{widthOf, countOf, facesOf};
@@ -77,9 +77,10 @@ impl Face {
         }
     }
 
-    // The faces of a pentachoron, in the order of the Rust's loops.
+    // The faces of a pentachoron, in the order of the Rust's loops, and then zeros.
     fn rows(self, a: u32, b: u32, c: u32, d: u32, e: u32) -> [u32; 30]
         ensures { λ r. ⌜ rows (widthOf self) (countOf self) r ≡ facesOf self (a ∷ b ∷ c ∷ d ∷ e ∷ []) ⌝ }
+        ensures { λ r. ⌜ drop (widthOf self * countOf self) r ≡ replicate (30 - widthOf self * countOf self) 0 ⌝ }
     {
         match self {
             Face::Edge => joined(
@@ -97,10 +98,11 @@ impl Face {
         }
     }
 
-    // The faces of the pentachoron at `at`.
+    // The faces of the pentachoron at `at`, and then zeros.
     pub fn rows_at(self, pents: &[u32], at: usize) -> [u32; 30]
         requires { ⌜ at + 5 ≤ length (now pents) ⌝ }
         ensures { λ r. ⌜ rows (widthOf self) (countOf self) r ≡ facesOf self (take 5 (drop at (now (pents .entry)))) ⌝ }
+        ensures { λ r. ⌜ drop (widthOf self * countOf self) r ≡ replicate (30 - widthOf self * countOf self) 0 ⌝ }
     {
         self.rows(
             pents[at],

@@ -7,7 +7,7 @@ use Rattle.refusals.specs.Refusals.{outcomeNumber}
 use Rattle.complex.specs.Check as Check
 use Rattle.complex.specs.declared.Built as Complex
 use Rattle.complex.specs.Builder.{builtNumber, builtPlace, countsOr, Lists, Builds}
-use Rattle.plain_counts.specs.Counts.{countsList, countsOfList}
+use Rattle.boundary.specs.Counts.{countsList, countsOfList}
 
 -- the builder at vertex count n and a pentachoron list: its answer in plain numbers, and the lists, counts and place after it
 pub record Built (n : ℕ) (given : List ℕ) (before : Lists) (counts : List ℕ) (r : ℕ) (after : Lists) (counts′ : List ℕ) (place : ℕ) : Type 0 where

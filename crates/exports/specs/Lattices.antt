@@ -9,8 +9,8 @@ use Rattle.foliation.specs.declared.Lattice.{Lattice}
 use Rattle.foliation.specs.declared.Listed as Foliation
 use Rattle.foliation.specs.Listing as Listing
 use Rattle.foliation.specs.Listing.{listedNumber, countOr}
-use Rattle.foliation.specs.OnLattice as OnLattice
-use Rattle.plain_counts.specs.Counts.{countsOfList}
+use Rattle.lattice_edges.specs.OnLattice as OnLattice
+use Rattle.boundary.specs.Counts.{countsOfList}
 
 -- two sizes as a lattice
 abbrev pub latticeOf : ℕ → ℕ → Lattice

@@ -3,17 +3,17 @@ mod local;
 mod regge;
 mod retouching;
 
+use boundary::counts_list;
+use boundary::counts_of;
+use builder::from_pentachorons;
 use comparison::check_built;
-use complex::from_pentachorons;
 use foliation::Lattice;
-use foliation::edge_types;
-use foliation::flat_minkowski_sq_lengths;
 use foliation::foliated_hypercubic;
 use geometry::cofactor_6x6;
-use lorentzian::all_lorentzian_dihedrals;
+use jacobian::all_lorentzian_dihedrals;
+use lattice_edges::edge_types;
+use lattice_edges::flat_minkowski_sq_lengths;
 use lorentzian::lorentzian_dihedral;
-use plain_counts::counts_list;
-use plain_counts::counts_of;
 ghost use mathlib.Core.Path.{_≡_};
 ghost use mathlib.Core.List.{map};
 ghost use Rattle.refusals.specs.Refusals.{outcomeNumber};
@@ -27,15 +27,15 @@ ghost use Rattle.fdlibm.specs.Acosh.{acoshOf};
 ghost use Rattle.fdlibm.specs.Asinh.{asinhOf};
 ghost use Rattle.complex.specs.Builder.{lists};
 ghost use Rattle.complex.specs.Check.{edgesIn};
-ghost use Rattle.foliation.specs.Edges.{typesOf, lengthsOf};
-ghost use Rattle.plain_counts.specs.Counts.{countsOfList};
-ghost use Rattle.exports.specs.Complexes.{Built, Checked};
-ghost use Rattle.exports.specs.Lattices.{latticeOf, Listed, Filled};
+ghost use Rattle.lattice_edges.specs.Edges.{typesOf, lengthsOf};
 ghost use Rattle.geometry.specs.CayleyMenger.{cm, cofactors};
 ghost use Rattle.geometry.specs.Answer as Cofactor;
 ghost use Rattle.lorentzian.specs.Triangle.{areaSq, areaSqGrad, gradOutcome, gradAfter};
-ghost use Rattle.lorentzian.specs.Dihedral.{kindNumberOf, valueOf, computeDihedral, dihedralAnswer, refusalOf, valueOr, kindOr, allDihedrals};
-ghost use Rattle.lorentzian.specs.Jacobian.{jacobian};
+ghost use Rattle.lorentzian.specs.Dihedral.{kindNumberOf, valueOf, computeDihedral, dihedralAnswer, refusalOf, valueOr, kindOr};
+ghost use Rattle.jacobian.specs.Jacobian.{allDihedrals, jacobian};
+ghost use Rattle.boundary.specs.Counts.{countsOfList};
+ghost use Rattle.exports.specs.Complexes.{Built, Checked};
+ghost use Rattle.exports.specs.Lattices.{latticeOf, Listed, Filled};
 
 // ---- floats, the root and fdlibm
 
@@ -210,8 +210,8 @@ pub extern "C" fn cjapthumi_all_lorentzian_dihedrals(
         ⌝ }
 {
     let d = all_lorentzian_dihedrals(s);
-    *values = lorentzian::dihedral_values(d);
-    *kinds = lorentzian::dihedral_kinds(d);
+    *values = jacobian::dihedral_values(d);
+    *kinds = jacobian::dihedral_kinds(d);
 }
 
 #[no_mangle]
@@ -222,7 +222,7 @@ pub extern "C" fn cjapthumi_all_lorentzian_dihedrals_jacobian(
 )
     ensures { λ r. ⌜ now (jac .exit) ≡ jacobian (now (s .entry)) eps ⌝ }
 {
-    *jac = lorentzian::all_lorentzian_dihedrals_jacobian(s, eps);
+    *jac = jacobian::all_lorentzian_dihedrals_jacobian(s, eps);
 }
 
 // ---- complexes

@@ -1,16 +1,16 @@
 // Local deficits, local gradient and local Hessian for C. A refused call returns the refusal's number, whose place is 0, and changes
 // nothing; an answer returns 0. A kind is 0 for Spacelike and 1 for Timelike.
-use lorentzian_regge::local_deficit_angles;
-use lorentzian_regge::local_lorentzian_regge_action_grad;
-use lorentzian_regge::local_lorentzian_regge_hessian;
-use plain_counts::counts_of;
+use boundary::counts_of;
+use local_regge::local_deficit_angles;
+use local_regge::local_lorentzian_regge_action_grad;
+use local_regge::local_lorentzian_regge_hessian;
 ghost use lib.ListN.{length};
 ghost use Prim.Native.Nat.{_*_};
 ghost use Rattle.complex.specs.Builder.{lists};
-ghost use Rattle.hessian.specs.Hessian.{localHessian};
 ghost use Rattle.hinges.specs.Local.{localGradient};
-ghost use Rattle.plain_counts.specs.Hinges.{facesLent, checking};
-ghost use Rattle.plain_counts.specs.Local.{LocalTable, LocalFill};
+ghost use Rattle.hessian.specs.Hessian.{localHessian};
+ghost use Rattle.boundary.specs.Hinges.{facesLent, checking};
+ghost use Rattle.boundary.specs.Local.{LocalTable, LocalFill};
 
 // `count` gets how many hinges there are.
 #[no_mangle]

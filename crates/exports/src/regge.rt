@@ -1,17 +1,17 @@
 // Hinges, action, gradient and length signs for C. A refused call returns the refusal's number, whose place is 0, and changes
 // nothing; an answer returns 0. A kind is 0 for Spacelike and 1 for Timelike.
-use complex::TriangleNumber;
-use lorentzian_regge::LengthSigns;
-use lorentzian_regge::length_signs;
+use boundary::counts_of;
+use incidence::TriangleNumber;
+use length_signs::LengthSigns;
+use length_signs::length_signs;
 use lorentzian_regge::lorentzian_deficit_angle;
 use lorentzian_regge::lorentzian_deficit_angles;
 use lorentzian_regge::lorentzian_regge_action;
 use lorentzian_regge::lorentzian_regge_action_grad;
-use plain_counts::counts_of;
 ghost use mathlib.Core.Path.{_≡_};
+ghost use Rattle.length_signs.specs.LengthSigns.{signsOf};
 ghost use Rattle.complex.specs.Builder.{lists};
-ghost use Rattle.lorentzian_regge.specs.LengthSigns.{signsOf};
-ghost use Rattle.plain_counts.specs.Hinges.{checking, Tabled, HingeCall, ActionCall, Graded};
+ghost use Rattle.boundary.specs.Hinges.{checking, Tabled, HingeCall, ActionCall, Graded};
 ghost use Rattle.exports.specs.Signs.{signsList};
 
 #[no_mangle]

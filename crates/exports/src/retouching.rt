@@ -1,11 +1,11 @@
 // The retouch for C. A refused call returns the refusal's number, whose place is 0, and changes nothing; an answer returns 0. A kind is
 // 0 for Spacelike and 1 for Timelike.
-use complex::EdgeNumber;
-use plain_counts::counts_of;
+use boundary::counts_of;
+use incidence::EdgeNumber;
 use retouch::retouch;
 ghost use Rattle.complex.specs.Builder.{lists};
-ghost use Rattle.plain_counts.specs.Hinges.{checking};
-ghost use Rattle.plain_counts.specs.Retouching.{TableRetouch};
+ghost use Rattle.boundary.specs.Hinges.{checking};
+ghost use Rattle.boundary.specs.Retouching.{TableRetouch};
 
 // Stores `sq_length` at `edge` and brings the deficits and kinds up to date.
 #[no_mangle]

@@ -1,17 +1,17 @@
 // Local deficits, local gradient and local Hessian of a built complex for C.
-use lorentzian_regge::local_deficit_angles_built;
-use lorentzian_regge::local_lorentzian_regge_action_grad_built;
-use lorentzian_regge::local_lorentzian_regge_hessian_built;
-use plain_counts::counts_of;
+use boundary::counts_of;
+use local_regge::local_deficit_angles_built;
+use local_regge::local_lorentzian_regge_action_grad_built;
+use local_regge::local_lorentzian_regge_hessian_built;
 ghost use lib.ListN.{length};
 ghost use Prim.Native.Nat.{_*_};
 ghost use Rattle.complex.specs.Builder.{lists};
 ghost use Rattle.hessian.specs.Hessian.{localHessian};
 ghost use Rattle.hinges.specs.Local.{localGradient};
-ghost use Rattle.lorentzian_regge.specs.Calls.{BuiltWith};
-ghost use Rattle.plain_counts.specs.Counts.{countsOfList};
-ghost use Rattle.plain_counts.specs.Hinges.{facesLent, trusting};
-ghost use Rattle.plain_counts.specs.Local.{LocalTable, LocalFill};
+ghost use Rattle.calls.specs.Calls.{BuiltWith};
+ghost use Rattle.boundary.specs.Counts.{countsOfList};
+ghost use Rattle.boundary.specs.Hinges.{facesLent, trusting};
+ghost use Rattle.boundary.specs.Local.{LocalTable, LocalFill};
 
 // The triangles on free edges, their deficits and kinds; `count` gets how many there are.
 #[no_mangle]

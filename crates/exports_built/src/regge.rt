@@ -1,14 +1,14 @@
 // Hinges, action and gradient of a built complex for C.
-use complex::TriangleNumber;
+use boundary::counts_of;
+use incidence::TriangleNumber;
 use lorentzian_regge::lorentzian_deficit_angle_built;
 use lorentzian_regge::lorentzian_deficit_angles_built;
 use lorentzian_regge::lorentzian_regge_action_built;
 use lorentzian_regge::lorentzian_regge_action_grad_built;
-use plain_counts::counts_of;
 ghost use Rattle.complex.specs.Builder.{lists};
-ghost use Rattle.lorentzian_regge.specs.Calls.{BuiltWith};
-ghost use Rattle.plain_counts.specs.Counts.{countsOfList};
-ghost use Rattle.plain_counts.specs.Hinges.{trusting, Tabled, HingeCall, ActionCall, Graded};
+ghost use Rattle.calls.specs.Calls.{BuiltWith};
+ghost use Rattle.boundary.specs.Counts.{countsOfList};
+ghost use Rattle.boundary.specs.Hinges.{trusting, Tabled, HingeCall, ActionCall, Graded};
 
 // The deficits and kinds of all triangles.
 #[no_mangle]

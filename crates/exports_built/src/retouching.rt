@@ -1,12 +1,12 @@
 // The retouch of a built complex for C.
-use complex::EdgeNumber;
-use plain_counts::counts_of;
+use boundary::counts_of;
+use incidence::EdgeNumber;
 use retouch::retouch_built;
 ghost use Rattle.complex.specs.Builder.{lists};
-ghost use Rattle.lorentzian_regge.specs.Calls.{BuiltWith};
-ghost use Rattle.plain_counts.specs.Counts.{countsOfList};
-ghost use Rattle.plain_counts.specs.Hinges.{trusting};
-ghost use Rattle.plain_counts.specs.Retouching.{TableRetouch};
+ghost use Rattle.calls.specs.Calls.{BuiltWith};
+ghost use Rattle.boundary.specs.Counts.{countsOfList};
+ghost use Rattle.boundary.specs.Hinges.{trusting};
+ghost use Rattle.boundary.specs.Retouching.{TableRetouch};
 
 // Stores `sq_length` at `edge` and brings the deficits and kinds up to date.
 #[no_mangle]

@@ -2,8 +2,5 @@
 pub mod Sizes
 pub mod Coordinates
 pub mod Cells
-pub mod Images
 pub mod Listings
 pub mod Orders
-pub mod Passed
-pub mod Accepted

@@ -1,6 +1,4 @@
 -- The definitions that contracts on lattices cite.
 pub mod Lattice
 pub mod Listing
-pub mod Edges
-pub mod OnLattice
 pub mod Parts

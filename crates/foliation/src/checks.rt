@@ -1,17 +1,7 @@
-// What is refused: sizes that are not lawful, and complexes that are not a lattice's.
+// Which sizes are lawful.
 use crate::Lattice;
-use crate::coords::n_total;
-use crate::hypercubic::list;
-use comparison::is_built;
-use complex::Counts;
-use lists::same_row;
-use refusals::Outcome;
-use refusals::Refusal;
 ghost use mathlib.Core.Path.{_≡_};
-ghost use mathlib.Core.Bool.{true};
-ghost use Rattle.complex.specs.Builder.{lists};
 ghost use Rattle.foliation.specs.Lattice.{isLawful};
-ghost use Rattle.foliation.specs.OnLattice.{hasLatticePents, latticeCheckOf};
 
 // Whether n_t and n_s are in 2..8 and there are at most 341 cells.
 pub fn is_lawful(lattice: Lattice) -> bool
@@ -32,71 +22,4 @@ pub fn is_lawful(lattice: Lattice) -> bool
         return false;
     }
     n_t * (n_s * (n_s * n_s)) <= 341
-}
-
-// Whether vertex count and pentachorons are those of the lattice.
-fn has_pents(lattice: Lattice, counts: Counts, pents: &[u32]) -> bool
-    requires { ⌜ isLawful lattice ≡ true ⌝ }
-    ensures { λ r. ⌜ r ≡ hasLatticePents lattice counts (now (pents .entry)) ⌝ }
-{
-    if counts.vertices != n_total(lattice) {
-        return false;
-    }
-    let mut own = [0u32; 40920];
-    let count = list(lattice, &mut own);
-    let len = 5 * count;
-    if counts.pentachorons != count {
-        return false;
-    }
-    if pents.len() < len {
-        return false;
-    }
-    same_row(pents, 0, &own[..len])
-}
-
-// 6, 7 and 5 of a list with a place for each edge.
-pub fn check(
-    lattice: Lattice,
-    counts: Counts,
-    pents: &[u32],
-    edges: &[u32],
-    triangles: &[u32],
-    tets: &[u32],
-    tri_to_pents_items: &[u32],
-    tri_to_pents_starts: &[u32],
-    edge_to_tris_items: &[u32],
-    edge_to_tris_starts: &[u32],
-    edge_to_pents_items: &[u32],
-    edge_to_pents_starts: &[u32],
-    room: usize,
-) -> Outcome
-    ensures { λ r. ⌜ r ≡ latticeCheckOf lattice counts (lists (now (pents .entry)) (now (edges .entry)) (now (triangles .entry)) (now (tets .entry))
-        (now («tri_to_pents_items» .entry)) (now («tri_to_pents_starts» .entry)) (now («edge_to_tris_items» .entry)) (now («edge_to_tris_starts» .entry))
-        (now («edge_to_pents_items» .entry)) (now («edge_to_pents_starts» .entry))) room ⌝ }
-{
-    if !is_lawful(lattice) {
-        return Outcome::Refused(Refusal::LatticeSize);
-    }
-    if !has_pents(lattice, counts, pents) {
-        return Outcome::Refused(Refusal::NotBuilt);
-    }
-    if !is_built(
-        counts,
-        pents,
-        edges,
-        triangles,
-        tets,
-        tri_to_pents_items,
-        tri_to_pents_starts,
-        edge_to_tris_items,
-        edge_to_tris_starts,
-        edge_to_pents_items,
-        edge_to_pents_starts,
-    ) {
-        return Outcome::Refused(Refusal::NotBuilt);
-    }
-    if room < counts.edges {
-        return Outcome::Refused(Refusal::ShortRoom);
-    }
-    Outcome::Done
 }

@@ -14,9 +14,9 @@ use Rattle.lists.specs.Loops.{hits}
 use Rattle.lists.proofs.Tests.{Says, pass, fail, eqb-says, ltb-says, both-says, passes, fails}
 use Rattle.lists.proofs.Elements.{getD-mem, getD-map, keep-only, mem-keep}
 use Rattle.lists.proofs.Loops.{hits-append, hits-none}
+use Rattle.second_derivatives.specs.Parts.{indexOf, placesIn, placedIn, placed, onDiagonal, offDiagonal}
+use Rattle.second_derivatives.proofs.Placing.{placed-there}
 use Rattle.hessian.specs.Hessian.{named, addsAt}
-use Rattle.hessian.specs.Parts.{indexOf, placesIn, placedIn, placed, onDiagonal, offDiagonal}
-use Rattle.hessian.proofs.Placing.{placed-there}
 
 -- ---- places in a list with no repetition
 

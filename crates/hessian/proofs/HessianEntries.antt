@@ -17,16 +17,19 @@ use Rattle.lists.proofs.Tests.{passes}
 use Rattle.lists.proofs.Elements.{getD-mem, gather-mem, mem-gather, mem-upto, among-says}
 use Rattle.complex.specs.declared.numbering.Face.the-variants.{Edge}
 use Rattle.complex.specs.Complex.{holding, rowNumbers}
-use Rattle.complex.specs.Incidence.{Simplices}
 use Rattle.complex.proofs.Meetings.{count-faces}
-use Rattle.lorentzian.specs.Jacobian.{jacobian}
+use Rattle.incidence.specs.Incidence.{Simplices}
+use Rattle.jacobian.specs.Jacobian.{jacobian}
+use Rattle.marks.specs.Marks.{met, listed}
 use Rattle.hinges.specs.Hinges.{FaceLists, pentLengths, hinges, hingeIn}
 use Rattle.hinges.specs.Action.{edgesAt, triLengths, absArea, areaLimit}
 use Rattle.hinges.specs.Parts.{Found}
-use Rattle.hinges.specs.Local.{met, listed, localTriangles, localPents}
+use Rattle.hinges.specs.Local.{localTriangles, localPents}
 use Rattle.hinges.proofs.SharedTriangle.{face-lies, edges-three, edges-once}
-use Rattle.hessian.specs.Hessian.{areaSecond, nineAdds, firstAdds, areaSlope, leftBy, lengthsOf, slopeRow, rowAdds, triangleAdds, secondAdds, named, addsAt, firstOf, secondOf}
-use Rattle.hessian.specs.Parts.{offDiagonal, firstPlaced, diagonalAt, firstAt, secondAt}
+use Rattle.second_derivatives.specs.SecondDerivatives.{areaSecond, nineAdds, firstAdds, areaSlope, leftBy, lengthsOf, slopeRow, rowAdds, triangleAdds, secondAdds}
+use Rattle.second_derivatives.specs.Parts.{offDiagonal}
+use Rattle.hessian.specs.Hessian.{named, addsAt, firstOf, secondOf}
+use Rattle.hessian.specs.Parts.{firstPlaced, diagonalAt, firstAt, secondAt}
 use Rattle.hessian.proofs.Addends.{Inside, named-from, adds-from, adds-none, entry-adds, off-only, off-adds, off-none, on-adds, kept-adds}
 
 -- ---- addends are inside, and doubles

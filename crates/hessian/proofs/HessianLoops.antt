@@ -9,12 +9,13 @@ use lib.ListN.{length, getD}
 use Rattle.lists.specs.Lists.{keep, gather, upto}
 use Rattle.lists.proofs.Tests.{eqb-says, passes, fails}
 use Rattle.complex.specs.Complex.{rowNumbers}
+use Rattle.marks.specs.Marks.{markedBelow}
 use Rattle.hinges.specs.declared.hinge.Hinge.{Hinge}
 use Rattle.hinges.specs.Hinges.{FaceLists, lengthsAt, pentLengths, hinges, hingeIn}
 use Rattle.hinges.specs.Action.{edgesAt, triLengths}
-use Rattle.hinges.specs.Local.{markedBelow}
-use Rattle.hessian.specs.Hessian.{firstAdds, secondAdds}
-use Rattle.hessian.specs.Parts.{placesIn, placed, onDiagonal, offDiagonal, diagonalAt, firstAt, secondAt}
+use Rattle.second_derivatives.specs.SecondDerivatives.{firstAdds, secondAdds}
+use Rattle.second_derivatives.specs.Parts.{placesIn, placed, onDiagonal, offDiagonal}
+use Rattle.hessian.specs.Parts.{diagonalAt, firstAt, secondAt}
 use Rattle.hessian.specs.Steps.{ifMarked}
 
 -- ---- marks

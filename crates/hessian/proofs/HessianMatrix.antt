@@ -20,14 +20,16 @@ use Rattle.lists.proofs.Tests.{lt-or-ge, eq-or-ne}
 use Rattle.lists.proofs.Elements.{getD-mem, map-same, map-upto, gather-same, gather-places, map-loops, mem-gather, mem-upto, upto-mem, upto-rising}
 use Rattle.lists.proofs.Sorting.{rising-once}
 use Rattle.lists.proofs.Loops.{length-scatter, scatter-at, scatter-front, hits-none, hits-one}
-use Rattle.complex.specs.Incidence.{Simplices}
+use Rattle.incidence.specs.Incidence.{Simplices}
 use Rattle.hinges.specs.Hinges.{FaceLists, hinges, hingeIn}
 use Rattle.hinges.specs.Action.{edgesAt, triLengths, absArea, areaLimit}
 use Rattle.hinges.specs.Parts.{Found}
 use Rattle.hinges.specs.Local.{localTriangles, localPents}
 use Rattle.hinges.proofs.SharedTriangle.{edges-three, edges-once, one-triangle}
-use Rattle.hessian.specs.Hessian.{areaSecond, nineAdds, firstAdds, named, addsAt, firstOf, secondOf, firstTerm, secondTerm, entry, localHessian}
-use Rattle.hessian.specs.Parts.{before, firstPlaced, diagonalAt, firstAt, secondAt}
+use Rattle.second_derivatives.specs.SecondDerivatives.{areaSecond, nineAdds, firstAdds}
+use Rattle.second_derivatives.specs.Parts.{before}
+use Rattle.hessian.specs.Hessian.{named, addsAt, firstOf, secondOf, firstTerm, secondTerm, entry, localHessian}
+use Rattle.hessian.specs.Parts.{firstPlaced, diagonalAt, firstAt, secondAt}
 use Rattle.hessian.specs.Steps.{ahead, diagonalEvents}
 use Rattle.hessian.proofs.Addends.{named-from, one-place, adds-append, adds-from, placed-below}
 use Rattle.hessian.proofs.HessianEntries.{inside-three, second-entry, second-fits, first-entry, first-none, diagonal-entry}

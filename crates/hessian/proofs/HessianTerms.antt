@@ -12,13 +12,15 @@ use Rattle.lists.specs.Groups.{Below}
 use Rattle.lists.specs.Loops.{scatter}
 use Rattle.lists.proofs.Elements.{mem-getD}
 use Rattle.complex.specs.declared.Counts.{Counts}
+use Rattle.marks.specs.Marks.{met, listed, marked, markedBelow}
+use Rattle.marks.proofs.Marking.{marked-listed}
 use Rattle.hinges.specs.Hinges.{FaceLists, facesIn}
 use Rattle.hinges.specs.Parts.{Measured}
-use Rattle.hinges.specs.Local.{met, listed, localTriangles, localPents, marked, markedBelow}
-use Rattle.hinges.proofs.Marking.{marked-listed}
-use Rattle.hinges.proofs.TableSteps.{pents-wide}
+use Rattle.hinges.specs.Local.{localTriangles, localPents}
+use Rattle.hinges.proofs.PentachoronSteps.{pents-wide}
+use Rattle.second_derivatives.specs.Parts.{before}
 use Rattle.hessian.specs.Hessian.{localHessian}
-use Rattle.hessian.specs.Parts.{before, diagonalAt, firstAt, secondAt}
+use Rattle.hessian.specs.Parts.{diagonalAt, firstAt, secondAt}
 use Rattle.hessian.specs.Steps.{ahead, diagonalEvents, diagonalOf}
 use Rattle.hessian.proofs.HessianMatrix.{diagonal-sum, matrix-over}
 

@@ -1,6 +1,4 @@
 -- Laws on the local Hessian, for proofs here and in the crates above.
-pub mod Placing
-pub mod Opposites
 pub mod Addends
 pub mod HessianLoops
 pub mod HessianEntries

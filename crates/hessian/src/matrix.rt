@@ -1,19 +1,19 @@
 // The local Hessian as a matrix: what the pentachorons and triangles on free edges add, in their order.
-use crate::second_derivatives::add_first;
-use crate::second_derivatives::add_second;
-use crate::second_derivatives::places_of_ten;
-use crate::second_derivatives::places_of_three;
 use complex::Counts;
-use complex::PentachoronNumber;
-use complex::TriangleNumber;
-use complex::pent_edge_indices;
-use complex::tri_edge_indices;
 use hinges::hinge_at;
-use hinges::mark_pents;
-use hinges::mark_tris;
 use hinges::pent_sq_lengths;
 use hinges::tri_sq_lengths;
 use hinges::zero_all;
+use incidence::PentachoronNumber;
+use incidence::TriangleNumber;
+use incidence::pent_edge_indices;
+use incidence::tri_edge_indices;
+use marks::mark_pents;
+use marks::mark_tris;
+use second_derivatives::add_first;
+use second_derivatives::add_second;
+use second_derivatives::places_of_ten;
+use second_derivatives::places_of_three;
 ghost use mathlib.Core.Path.{_≡_};
 ghost use mathlib.Core.Bool.{true};
 ghost use Prim.Native.Nat.{_*_, _≤_, _<_};
@@ -25,11 +25,13 @@ ghost use Rattle.lists.specs.Rows.{over};
 ghost use Rattle.lists.specs.Groups.{Below};
 ghost use Rattle.lists.specs.Loops.{scatter};
 ghost use Rattle.complex.specs.Check.{pentsIn, edgesIn, trianglesIn, holds};
+ghost use Rattle.marks.specs.Marks.{markedBelow};
 ghost use Rattle.hinges.specs.Hinges.{facesIn};
-ghost use Rattle.hinges.specs.Local.{markedBelow, localTriangles, localPents};
+ghost use Rattle.hinges.specs.Local.{localTriangles, localPents};
 ghost use Rattle.hinges.specs.Parts.{Passable, Measured};
+ghost use Rattle.second_derivatives.specs.Parts.{before};
 ghost use Rattle.hessian.specs.Hessian.{localHessian};
-ghost use Rattle.hessian.specs.Parts.{before, diagonalAt, firstAt, secondAt};
+ghost use Rattle.hessian.specs.Parts.{diagonalAt, firstAt, secondAt};
 ghost use Rattle.hessian.specs.Steps.{ifMarked, ahead, diagonalEvents, diagonalOf};
 
 // ---- the second term

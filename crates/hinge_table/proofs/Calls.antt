@@ -40,11 +40,11 @@ use Rattle.complex.proofs.Counts.Laws as TC′
 use Rattle.hinges.specs.declared.hinge.Hinge.{Hinge}
 use Rattle.hinges.specs.Hinges.{FaceLists, facesIn, hinges, hingeIn}
 use Rattle.hinges.proofs.hinge.Hinge as T
-use Rattle.lorentzian_regge.specs.declared.local_deficits.LocalAnswer.{LocalAnswer}
-use Rattle.lorentzian_regge.specs.Calls.{countOr}
-use Rattle.lorentzian_regge.proofs.local_deficits.LocalAnswer as TA
-use Rattle.lorentzian_regge.proofs.local_deficits.LocalAnswer.Laws as TA′
-use Rattle.lorentzian_regge.proofs.local_deficits.LocalAnswer.count_or as count-or
+use Rattle.calls.specs.declared.LocalAnswer.{LocalAnswer}
+use Rattle.calls.specs.Calls.{countOr}
+use Rattle.calls.proofs.LocalAnswer as TA
+use Rattle.calls.proofs.LocalAnswer.Laws as TA′
+use Rattle.calls.proofs.LocalAnswer.count_or as count-or
 use Rattle.hinge_table.specs.Parts.{Ready, outcomeOf}
 use Rattle.hinge_table.proofs.Meet.{shortens}
 use Rattle.hinge_table.proofs.begin.outcome_of as outcome-of

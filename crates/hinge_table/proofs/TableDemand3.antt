@@ -18,8 +18,8 @@ use Rattle.comparison.proofs.BuiltComplex.{built-says, built-wide, built-simpli
 use Rattle.lorentzian.specs.declared.dihedral.HingeType.the-variants.{Spacelike}
 use Rattle.hinges.specs.declared.hinge.Hinge.{Hinge}
 use Rattle.hinges.specs.Hinges.{FaceLists, facesIn, hingeOf, hingeIn}
-use Rattle.lorentzian_regge.specs.Calls.{builtCheckOf, lengthsCheckOf, roomCheckOf}
-use Rattle.lorentzian_regge.proofs.BuiltCalls.{others-decide}
+use Rattle.calls.specs.Calls.{builtCheckOf, lengthsCheckOf, roomCheckOf}
+use Rattle.calls.proofs.BuiltCalls.{others-decide}
 use Rattle.retouch.specs.Retouch.{touched, anew, edgeCheckOf}
 use Rattle.retouch.specs.Demand3.{entryOf, Agree, Demand3}
 use Rattle.retouch.proofs.Locality.{touched-shares}

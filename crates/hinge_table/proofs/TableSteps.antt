@@ -27,11 +27,11 @@ use Rattle.lorentzian.specs.declared.dihedral.HingeType.the-variants.{Spacelike
 use Rattle.hinges.specs.declared.hinge.Hinge.{Hinge}
 use Rattle.hinges.specs.Hinges.{FaceLists, facesIn, hingeOf, hinges, hingeIn}
 use Rattle.hinges.specs.Parts.{Measured}
-use Rattle.hinges.proofs.TableSteps.{length-hinges}
-use Rattle.lorentzian_regge.specs.declared.local_deficits.LocalAnswer.{LocalAnswer}
-use Rattle.lorentzian_regge.specs.declared.local_deficits.LocalAnswer.the-variants.{Done, Refused}
-use Rattle.lorentzian_regge.specs.Calls.{BuiltWith, lengthsCheckOf, roomCheckOf, countBy, countOr}
-use Rattle.lorentzian_regge.proofs.BuiltCalls.{built-measured, lengths-passed, room-passed}
+use Rattle.hinges.proofs.OnePass.{length-hinges}
+use Rattle.calls.specs.declared.LocalAnswer.{LocalAnswer}
+use Rattle.calls.specs.declared.LocalAnswer.the-variants.{Done, Refused}
+use Rattle.calls.specs.Calls.{BuiltWith, lengthsCheckOf, roomCheckOf, countBy, countOr}
+use Rattle.calls.proofs.BuiltCalls.{built-measured, lengths-passed, room-passed}
 use Rattle.retouch.specs.Retouch.{touched, anew, after}
 use Rattle.hinge_table.specs.Table.{shortRecords, TableWorked, TableRetouched}
 use Rattle.hinge_table.specs.Parts.{Begun, outcomeOf}

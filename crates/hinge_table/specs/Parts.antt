@@ -8,9 +8,9 @@ use Rattle.refusals.specs.declared.Outcome.the-variants as Outcome
 use Rattle.complex.specs.declared.Counts.{Counts}
 use Rattle.complex.specs.Builder.{Lists}
 use Rattle.hinges.specs.Parts.{Measured}
-use Rattle.lorentzian_regge.specs.declared.local_deficits.LocalAnswer.{LocalAnswer}
-use Rattle.lorentzian_regge.specs.declared.local_deficits.LocalAnswer.the-variants.{Done, Refused}
-use Rattle.lorentzian_regge.specs.Calls.{countBy, countOr}
+use Rattle.calls.specs.declared.LocalAnswer.{LocalAnswer}
+use Rattle.calls.specs.declared.LocalAnswer.the-variants.{Done, Refused}
+use Rattle.calls.specs.Calls.{countBy, countOr}
 use Rattle.retouch.specs.Retouch.{after}
 
 -- what is asked where `count` records are written to a table of `records` places: each has a triangle, and where there is one the complex is measured

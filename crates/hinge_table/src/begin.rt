@@ -1,14 +1,14 @@
 // What a call on a table of records does before it writes them: the checks, the incidence lists, the triangles whose records are to
 // be written, and the new length. The three lists of scratch have 81,920 places.
+use calls::LocalAnswer;
+use calls::check_lengths;
+use calls::check_room;
 use comparison::is_built_noting;
 use complex::Counts;
-use complex::EdgeNumber;
-use complex::TriangleNumber;
 use hinges::Hinge;
 use hinges::hinge_at;
-use lorentzian_regge::LocalAnswer;
-use lorentzian_regge::check_lengths;
-use lorentzian_regge::check_room;
+use incidence::EdgeNumber;
+use incidence::TriangleNumber;
 use refusals::Outcome;
 use refusals::Refusal;
 use retouch::check_edge;
@@ -21,7 +21,7 @@ ghost use Rattle.lists.specs.Rows.{over};
 ghost use Rattle.complex.specs.Builder.{lists};
 ghost use Rattle.hinges.specs.Hinges.{facesIn, hinges, hingeIn};
 ghost use Rattle.hinges.specs.Parts.{Measured};
-ghost use Rattle.lorentzian_regge.specs.Calls.{builtCheckOf, lengthsCheckOf, roomCheckOf};
+ghost use Rattle.calls.specs.Calls.{builtCheckOf, lengthsCheckOf, roomCheckOf};
 ghost use Rattle.retouch.specs.Retouch.{edgeCheckOf, touched, after};
 ghost use Rattle.hinge_table.specs.Table.{shortRecords};
 ghost use Rattle.hinge_table.specs.Parts.{Begun, outcomeOf};

@@ -8,7 +8,7 @@ use Rattle.floats.specs.Ops as Ops
 use Rattle.floats.specs.Ops.{_⊗_, dbl, two}
 use Rattle.lists.specs.Rows.{Wide}
 use Rattle.complex.specs.Complex.{holding}
-use Rattle.complex.specs.Incidence.{Simplices}
+use Rattle.incidence.specs.Incidence.{Simplices}
 use Rattle.lorentzian.specs.declared.dihedral.HingeType.{HingeType}
 use Rattle.lorentzian.specs.declared.dihedral.HingeType.the-variants.{Spacelike, Timelike}
 use Rattle.lorentzian.specs.declared.dihedral.Dihedral.{Dihedral}

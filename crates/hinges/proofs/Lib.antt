@@ -1,7 +1,6 @@
 -- Laws on hinges, for proofs here and in the crates above.
-pub mod TableSteps
+pub mod PentachoronSteps
 pub mod TriangleSteps
-pub mod Marking
 pub mod SharedTriangle
 pub mod OnePass
 pub mod LocalEntries

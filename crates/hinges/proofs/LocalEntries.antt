@@ -22,17 +22,17 @@ use Rattle.lists.proofs.Tests.{Says, pass, fail, says-by, said, denied, passes,
 use Rattle.lists.proofs.Elements.{getD-mem, mem-getD, getD-map, keep-mem, mem-keep, keep-rising, gather-mem, mem-gather, gather-one, map-same, upto-mem, mem-upto, upto-rising, among-says}
 use Rattle.lists.proofs.Loops.{length-scatter, scatter-at, hits-none, hits-skip, hits-same}
 use Rattle.complex.specs.Complex.{edges, triangles, holding, triToPents}
-use Rattle.complex.specs.Incidence.{Simplices}
 use Rattle.complex.proofs.FaceNumbers.{three-edges}
 use Rattle.complex.proofs.Lying.{Sorted, edge-of-triangle, mem-holding}
-use Rattle.complex.proofs.Incident.{simplices-of}
+use Rattle.incidence.specs.Incidence.{Simplices}
+use Rattle.incidence.proofs.Incident.{simplices-of}
+use Rattle.marks.specs.Marks.{met, listed}
 use Rattle.hinges.specs.declared.hinge.Hinge.{Hinge}
 use Rattle.hinges.specs.Hinges.{FaceLists, builtFaces, hinge, hinges, hingeIn, deficitsOf, dihedralIn, hingeAt}
 use Rattle.hinges.specs.Action.{edgesAt, triLengths, absArea, areaLimit, contributionOf, atThree, contributionsOf, contributions, gradientOf}
-use Rattle.hinges.specs.Local.{met, listed, localTriangles, localHinges, localGradient, atFree, summedGradient}
+use Rattle.hinges.specs.Local.{localTriangles, localHinges, localGradient, atFree, summedGradient}
 use Rattle.hinges.specs.Parts.{Found}
-use Rattle.hinges.proofs.OnePass.{hinge-in}
-use Rattle.hinges.proofs.TableSteps.{length-hinges}
+use Rattle.hinges.proofs.OnePass.{hinge-in, length-hinges}
 use Rattle.hinges.proofs.SharedTriangle.{face-lies}
 
 -- ---- events at a place

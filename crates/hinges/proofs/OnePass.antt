@@ -5,7 +5,7 @@ use mathlib.Core.Path.{_≡_, refl, sym, ap, _∙_, subst}
 use mathlib.Core.Bool.{Bool, not, cond}
 use mathlib.Core.List.{List, [], _∷_, map, reverse, List·Memᴰ, Memᴰ·map, Memᴰ·of-map, Memᴰ·cast}
 use native.Mathlib.Omega.{arith}
-use lib.ListN.{length, getD, replicate, length-replicate, getD-replicate}
+use lib.ListN.{length, getD, replicate, length-replicate, length-map, getD-replicate}
 use lib.Ieee.{Float, nan}
 use Rattle.floats.specs.Ops as Ops
 use Rattle.lists.specs.Lists.{keep, upto, combos, among, within, Within, Rising}
@@ -13,19 +13,27 @@ use Rattle.lists.specs.Keys.{find}
 use Rattle.lists.specs.Rows.{Wide}
 use Rattle.lists.specs.Loops.{hits}
 use Rattle.lists.proofs.Tests.{Says, pass, fail}
-use Rattle.lists.proofs.Elements.{getD-mem, getD-map, gather-places, rising-place, not-among, keep-mem, mem-keep, keep-same, map-same, map-at, upto-mem, mem-upto, upto-rising, getD-table, mem-reverse, reverse-mem, among-says, within-says}
+use Rattle.lists.proofs.Elements.{getD-mem, getD-map, gather-places, rising-place, not-among, keep-mem, mem-keep, keep-same, map-same, map-at, upto-mem, mem-upto, upto-rising, length-upto, getD-table, mem-reverse, reverse-mem, among-says, within-says}
 use Rattle.lists.proofs.Keys.{find-get}
 use Rattle.lists.proofs.Choices.{combos-within, combos-has, combos-once}
 use Rattle.lists.proofs.Loops.{scatter-at, hits-keep, hits-one, hits-none}
 use Rattle.complex.specs.Complex.{triangles, holding, triToPents}
-use Rattle.complex.specs.Incidence.{Simplices, oppositeIndices}
 use Rattle.complex.proofs.SortedPents.{five-of}
 use Rattle.complex.proofs.Lying.{Sorted}
-use Rattle.complex.proofs.Incident.{simplices-of}
+use Rattle.incidence.specs.Incidence.{Simplices, oppositeIndices}
+use Rattle.incidence.proofs.Incident.{simplices-of}
 use Rattle.lorentzian.specs.declared.dihedral.Dihedral.{Dihedral}
+use Rattle.hinges.specs.declared.hinge.Hinge.{Hinge}
 use Rattle.hinges.specs.declared.hinge.KindByte.{KindByte}
 use Rattle.hinges.specs.declared.hinge.KindByte.the-variants.{NoKind}
 use Rattle.hinges.specs.Hinges.{FaceLists, builtFaces, plus, first, closed, hinge, pentLengths, dihedralOf, localPairs, without, dihedrals, passDihedrals, sums, firstKinds, hinges, hingeIn, dihedralIn, hingeAt}
+
+-- ---- the table
+
+-- a reading of all hinges has one entry for each triangle
+pub length-hinges : {S : Type 0} (F : FaceLists) (ls : List Float) (g : Hinge → S) → length (map g (hinges F ls)) ≡ length (F .triangles)
+unfolding hinges
+length-hinges F ls g = length-map (hinges F ls) g ∙ length-map (upto (length (F .triangles))) (λ t. closed (getD (firstKinds F ls) t NoKind) (getD (sums F ls) t nan)) ∙ length-upto (length (F .triangles))
 
 -- ---- the local indices of a pentachoron
 

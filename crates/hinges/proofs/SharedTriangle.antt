@@ -12,9 +12,9 @@ use Rattle.lists.proofs.Elements.{getD-mem, keep-mem, mem-keep, keep-only, keep
 use Rattle.lists.proofs.Keys.{find-get, find-mem}
 use Rattle.lists.proofs.Choices.{combos-within, combos-rising, combos-once}
 use Rattle.complex.specs.Complex.{holding, rowNumbers}
-use Rattle.complex.specs.Incidence.{Simplices}
 use Rattle.complex.proofs.Lying.{holding-mem}
 use Rattle.complex.proofs.FaceNumbers.{three-edges}
+use Rattle.incidence.specs.Incidence.{Simplices}
 use Rattle.hinges.specs.Hinges.{FaceLists}
 use Rattle.hinges.specs.Action.{edgesAt}
 use Rattle.hinges.specs.Parts.{Found}

@@ -11,13 +11,13 @@ use Rattle.lists.proofs.Tests.{passes}
 use Rattle.lists.proofs.Elements.{getD-mem, keep-only, mem-upto, within-says}
 use Rattle.lists.proofs.Rows.{length-rows}
 use Rattle.complex.specs.declared.Counts.{Counts}
-use Rattle.complex.specs.declared.incidence.Opposite.{Opposite}
 use Rattle.complex.specs.Complex.{holding, rowNumbers}
 use Rattle.complex.specs.Check.{pentsIn, edgesIn, trianglesIn}
-use Rattle.complex.specs.Incidence.{indexList, oppositeIndices}
 use Rattle.complex.proofs.Lying.{mem-holding}
+use Rattle.incidence.specs.declared.Opposite.{Opposite}
+use Rattle.incidence.specs.Incidence.{indexList, oppositeIndices}
 use Rattle.hinges.specs.Parts.{Measured}
-use Rattle.hinges.proofs.TableSteps.{numbers-below}
+use Rattle.hinges.proofs.PentachoronSteps.{numbers-below}
 
 -- both vertices that a triangle leaves are vertices of the pentachoron
 pub opposite-below : (p t : List ℕ) (r : Opposite) → length p ≡ 5 → indexList r ≡ oppositeIndices p t → (r .l < 5) × (r .m < 5)

@@ -14,7 +14,7 @@ use Rattle.lists.specs.Loops.{scatter}
 use Rattle.complex.specs.declared.Counts.{Counts}
 use Rattle.complex.specs.Complex.{edges, triangles, rowNumbers}
 use Rattle.complex.specs.Check.{pentsIn, edgesIn, trianglesIn}
-use Rattle.complex.specs.Incidence.{oppositeIndices}
+use Rattle.incidence.specs.Incidence.{oppositeIndices}
 use Rattle.geometry.specs.Determinant.{cofactor}
 use Rattle.geometry.specs.CayleyMenger.{cm}
 use Rattle.lorentzian.specs.declared.dihedral.HingeType.{HingeType}

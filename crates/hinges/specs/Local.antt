@@ -1,27 +1,18 @@
 -- Free edges: the triangles and pentachorons on them, the hinges of those triangles, and the gradient's entries. Definitions only.
 use Prim.Native.Nat.{ℕ}
-use mathlib.Core.List.{List, [], map, foldl}
-use lib.Dec.{eqb}
+use mathlib.Core.List.{List, map}
 use lib.Ieee.{Float, nan}
-use lib.ListN.{length, getD, set, replicate}
+use lib.ListN.{length, getD, replicate}
 use Rattle.floats.specs.Ops.{_⊕_, zero}
-use Rattle.lists.specs.Lists.{keep, gather, upto, among}
+use Rattle.lists.specs.Lists.{gather}
 use Rattle.lists.specs.Groups.{places}
 use Rattle.lists.specs.Loops.{scatter}
-use Rattle.complex.specs.Complex.{holding}
+use Rattle.marks.specs.Marks.{met, listed}
 use Rattle.hinges.specs.declared.hinge.Hinge.{Hinge}
 use Rattle.hinges.specs.Hinges.{FaceLists, hinges, hingeIn, hingeAt}
 use Rattle.hinges.specs.Action.{edgesAt, triLengths, contributionsOf, gradient}
 
 -- ---- the faces on free edges
-
--- the rows in which the edges of these numbers lie, one edge after the other
-unfoldable pub met : List (List ℕ) → List (List ℕ) → List ℕ → List ℕ
-met rs edges free = gather (λ e. holding rs (getD edges e [])) free
-
--- those of 0, 1, .. n - 1 that are among the numbers, ascending
-unfoldable pub listed : ℕ → List ℕ → List ℕ
-listed n numbers = keep (λ t. among t numbers) (upto n)
 
 -- the triangles on free edges, each once, ascending
 abbrev pub localTriangles : FaceLists → List ℕ → List ℕ
@@ -51,13 +42,3 @@ atFree free es = gather (λ a. map (λ k. (k, a .1)) (places (a .0) 0 free)) es
 unfoldable pub summedGradient : FaceLists → List (List ℕ) → List Float → List ℕ → List Float
 summedGradient F triToPents ls free =
     scatter nan _⊕_ (gather (λ t. atFree free (contributionsOf (edgesAt F t) (triLengths F ls t) (hingeAt F triToPents ls t .deficit))) (localTriangles F free)) (replicate (length free) zero)
-
--- ---- marks
-
--- a list of marks with these numbers marked by 1
-unfoldable pub marked : List ℕ → List ℕ → List ℕ
-marked numbers marks = foldl (λ ms t. set ms t 1) marks numbers
-
--- the marked numbers below n, ascending
-unfoldable pub markedBelow : ℕ → List ℕ → List ℕ
-markedBelow n marks = keep (λ t. eqb (getD marks t 0) 1) (upto n)

@@ -1,19 +1,12 @@
--- What the steps over a complex ask and leave. Definitions only.
-use Prim.Native.Nat.{ℕ, _-_, _≤_}
+-- What the steps over a complex ask. Definitions only.
+use Prim.Native.Nat.{ℕ, _≤_}
 use mathlib.Core.Path.{_≡_}
 use mathlib.Core.Bool.{true}
-use mathlib.Core.List.{List, map, List·Memᴰ}
-use lib.ListN.{getD}
-use lib.Ieee.{nan}
-use Rattle.lists.specs.Lists.{upto, combos}
+use mathlib.Core.List.{List, List·Memᴰ}
+use Rattle.lists.specs.Lists.{combos}
 use Rattle.complex.specs.declared.Counts.{Counts}
 use Rattle.complex.specs.Check.{pentsIn, edgesIn, trianglesIn, holds}
-use Rattle.complex.specs.Incidence.{Tens, Simplices, Lie}
-use Rattle.lorentzian.specs.declared.dihedral.Dihedral.{Dihedral}
-use Rattle.lorentzian.specs.declared.dihedral.Dihedral.the-variants.{Angle}
-use Rattle.hinges.specs.Hinges.{byteOf, kindIn, first}
-
--- ---- what is asked
+use Rattle.incidence.specs.Incidence.{Tens, Simplices, Lie}
 
 -- each face of k vertices of each row is among the keys
 abbrev pub Found : List (List ℕ) → ℕ → List (List ℕ) → Type 0
@@ -36,13 +29,3 @@ pub record Measured (c : Counts) (pents edges triangles items ss pe pt : List �
   pub lie : Lie (pentsIn c pents) (trianglesIn c triangles)
   pub holders : holds (pentsIn c pents) (trianglesIn c triangles) items ss ≡ true
   pub edges-found : Found (edgesIn c edges) 2 (trianglesIn c triangles)
-
--- ---- the pass
-
--- a byte of the list of kinds, with one dihedral more
-unfoldable pub firstByte : ℕ → Dihedral → ℕ
-firstByte b d = byteOf (first (kindIn b) d)
-
--- the ten dihedrals of a pentachoron with its ten triangle numbers: a pair of vertices is opposite the triangle that is as far from the last as the pair is from the first
-abbrev pub tenEvents : List ℕ → List Dihedral → List (ℕ × Dihedral)
-tenEvents tris ds = map (λ k. (getD tris (9 - k) 0, getD ds k (Angle nan))) (upto 10)

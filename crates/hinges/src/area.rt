@@ -1,12 +1,12 @@
 // The areas of triangles.
-use complex::TriangleEdges;
 use floats::abs;
+use incidence::TriangleEdges;
 use lorentzian::triangle_area_sq_lorentzian;
 use root::root;
 ghost use mathlib.Core.Path.{_≡_};
 ghost use lib.ListN.{length};
 ghost use Rattle.lists.specs.Groups.{Below};
-ghost use Rattle.complex.specs.Incidence.{edgeList};
+ghost use Rattle.incidence.specs.Incidence.{edgeList};
 ghost use Rattle.hinges.specs.Hinges.{lengthsAt};
 ghost use Rattle.hinges.specs.Action.{absArea};
 

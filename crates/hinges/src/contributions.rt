@@ -1,6 +1,6 @@
 // What one triangle adds to the gradient of the action.
 use crate::area::abs_area;
-use complex::TriangleEdges;
+use incidence::TriangleEdges;
 use lorentzian::triangle_area_sq_grad;
 use lorentzian::triangle_area_sq_lorentzian;
 ghost use mathlib.Core.Path.{_≡_};
@@ -9,7 +9,7 @@ ghost use lib.ListN.{length};
 ghost use Rattle.floats.specs.Ops.{_⊕_};
 ghost use Rattle.lists.specs.Groups.{Below};
 ghost use Rattle.lists.specs.Loops.{scatter};
-ghost use Rattle.complex.specs.Incidence.{edgeList};
+ghost use Rattle.incidence.specs.Incidence.{edgeList};
 ghost use Rattle.hinges.specs.Action.{factorOf, contributionOf, contributionsOf};
 
 // The sign of a squared area, over twice the area.

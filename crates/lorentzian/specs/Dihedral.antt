@@ -121,7 +121,3 @@ kindOr (Refused r) other = other
 -- what f gives for the pairs 01, 02, 03, 04, 12, 13, 14, 23, 24, 34
 abbrev pub pairs : {A : Type 0} → (ℕ → ℕ → A) → List A
 pairs f = f 0 1 ∷ f 0 2 ∷ f 0 3 ∷ f 0 4 ∷ f 1 2 ∷ f 1 3 ∷ f 1 4 ∷ f 2 3 ∷ f 2 4 ∷ f 3 4 ∷ []
-
--- the dihedrals of the ten pairs
-unfoldable pub allDihedrals : List Float → List Dihedral
-allDihedrals s = pairs (lorentzianDihedral s)

@@ -1,4 +1,3 @@
 -- The definitions that contracts on triangles and dihedrals cite.
 pub mod Triangle
 pub mod Dihedral
-pub mod Jacobian

@@ -23,7 +23,7 @@ use Rattle.complex.proofs.FaceNumbers.{three-edges}
 use Rattle.hinges.specs.Hinges.{FaceLists, facesIn, hinges, deficitsOf}
 use Rattle.hinges.specs.Action.{edgesAt, triLengths, absArea, areaLimit, actionOf, action, atThree, contributionOf, contributionsOf, contributions, gradientOf, gradient}
 use Rattle.hinges.specs.Parts.{Measured}
-use Rattle.hinges.proofs.TableSteps.{length-hinges}
+use Rattle.hinges.proofs.OnePass.{length-hinges}
 use Rattle.hinges.proofs.TriangleSteps.{edges-below}
 
 -- ---- the front of a list

@@ -1,4 +1,2 @@
--- The definitions that contracts on calls over a complex and on length signs cite.
-pub mod LengthSigns
-pub mod Calls
-pub mod Parts
+-- The definitions that contracts on deficits, action and gradient cite.
+pub mod Answers

@@ -1,12 +1,12 @@
 // The action of a complex.
-use crate::checks::check_lengths;
+use calls::check_lengths;
 use comparison::is_built_noting;
 use complex::Counts;
-use complex::TriangleNumber;
-use complex::tri_edge_indices;
 use hinges::abs_area;
 use hinges::tri_sq_lengths;
-use hinges::write_table;
+use incidence::TriangleNumber;
+use incidence::tri_edge_indices;
+use one_pass::write_table;
 use refusals::Outcome;
 use refusals::Refusal;
 ghost use mathlib.Core.Path.{_≡_};
@@ -17,7 +17,8 @@ ghost use Rattle.complex.specs.Builder.{lists};
 ghost use Rattle.hinges.specs.Hinges.{facesIn};
 ghost use Rattle.hinges.specs.Action.{actionOf, action};
 ghost use Rattle.hinges.specs.Parts.{Measured};
-ghost use Rattle.lorentzian_regge.specs.Calls.{BuiltWith, lengthsCheckOf, builtCheckOf, actionBy, actionNumber, actionOr};
+ghost use Rattle.calls.specs.Calls.{BuiltWith, lengthsCheckOf, builtCheckOf};
+ghost use Rattle.lorentzian_regge.specs.Answers.{actionBy, actionNumber, actionOr};
 
 // An action, or why there is none.
 pub enum ActionAnswer {

@@ -1,21 +1,22 @@
 // The deficits of all triangles, and of one.
-use crate::checks::check_lengths;
-use crate::checks::check_room;
-use crate::checks::check_triangle;
+use calls::check_lengths;
+use calls::check_room;
+use calls::check_triangle;
 use comparison::is_built_noting;
 use complex::Counts;
-use complex::TriangleNumber;
 use hinges::Hinge;
 use hinges::KindByte;
 use hinges::hinge_at;
-use hinges::write_table;
+use incidence::TriangleNumber;
+use one_pass::write_table;
 use refusals::Outcome;
 use refusals::Refusal;
 ghost use mathlib.Core.Path.{_≡_};
 ghost use lib.ListN.{length};
 ghost use Rattle.complex.specs.Builder.{lists};
 ghost use Rattle.hinges.specs.Hinges.{facesIn, hinges, hingeIn};
-ghost use Rattle.lorentzian_regge.specs.Calls.{BuiltWith, lengthsCheckOf, builtCheckOf, roomCheckOf, triangleCheckOf, shortTable, hingeBy, hingeNumber, hingeOr, deficitOr, kindByteOr, Tabled};
+ghost use Rattle.calls.specs.Calls.{BuiltWith, lengthsCheckOf, builtCheckOf, roomCheckOf, triangleCheckOf, shortTable};
+ghost use Rattle.lorentzian_regge.specs.Answers.{hingeBy, hingeNumber, hingeOr, deficitOr, kindByteOr, Tabled};
 
 // ---- all triangles
 

@@ -1,14 +1,14 @@
 // The gradient of the action by the squared lengths.
-use crate::checks::check_lengths;
-use crate::checks::check_room;
+use calls::check_lengths;
+use calls::check_room;
 use comparison::is_built_noting;
 use complex::Counts;
-use complex::TriangleNumber;
-use complex::tri_edge_indices;
 use hinges::add_contributions;
 use hinges::tri_sq_lengths;
-use hinges::write_table;
 use hinges::zero_all;
+use incidence::TriangleNumber;
+use incidence::tri_edge_indices;
+use one_pass::write_table;
 use refusals::Outcome;
 use refusals::Refusal;
 ghost use mathlib.Core.Path.{_≡_};
@@ -22,7 +22,8 @@ ghost use Rattle.complex.specs.Builder.{lists};
 ghost use Rattle.hinges.specs.Hinges.{facesIn};
 ghost use Rattle.hinges.specs.Action.{contributions};
 ghost use Rattle.hinges.specs.Parts.{Measured};
-ghost use Rattle.lorentzian_regge.specs.Calls.{BuiltWith, lengthsCheckOf, builtCheckOf, roomCheckOf, shortGradient, Graded};
+ghost use Rattle.calls.specs.Calls.{BuiltWith, lengthsCheckOf, builtCheckOf, roomCheckOf};
+ghost use Rattle.lorentzian_regge.specs.Answers.{shortGradient, Graded};
 
 // What all triangles add, in their order.
 fn add_all_contributions<'a>(

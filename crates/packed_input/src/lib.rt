@@ -3,8 +3,8 @@ mod bits;
 mod fields;
 
 use bits::number;
+use builder::from_pentachorons;
 use complex::Built;
-use complex::from_pentachorons;
 use fields::check_header;
 use fields::check_tail;
 use fields::read_lengths;

@@ -508,7 +508,7 @@ fn print_call(
     edge_to_pents_items: &mut [u32],
     edge_to_pents_starts: &mut [u32],
 ) {
-    let built = complex::from_pentachorons(
+    let built = builder::from_pentachorons(
         number_at(line, 1) as usize,
         given,
         pents,

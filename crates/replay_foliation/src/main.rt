@@ -170,7 +170,7 @@ fn print_edge_types(
     types: &mut [u8],
 ) {
     fill_types(types);
-    let outcome = foliation::edge_types(
+    let outcome = lattice_edges::edge_types(
         lattice_at(line, 0),
         counts,
         pents,
@@ -206,7 +206,7 @@ fn print_sq_lengths(
     lengths: &mut [f64],
 ) {
     fill_doubles(lengths);
-    let outcome = foliation::flat_minkowski_sq_lengths(
+    let outcome = lattice_edges::flat_minkowski_sq_lengths(
         lattice_at(line, 0),
         counts,
         pents,
@@ -397,7 +397,7 @@ fn print_given(line: &[u8], count: usize, given: &List) {
     let mut edge_to_tris_starts = [0; 58320];
     let mut edge_to_pents_items = [0; 58320];
     let mut edge_to_pents_starts = [0; 58320];
-    let built = complex::from_pentachorons(
+    let built = builder::from_pentachorons(
         size_at(line, 4),
         first(given, 5 * within(count, 1944)),
         &mut pents,

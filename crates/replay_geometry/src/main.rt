@@ -203,7 +203,7 @@ fn print_dihedrals(s: &[f64; 10]) {
         }
     }
     io::write_all(STDOUT_FILENO, b"all");
-    let d = lorentzian::all_lorentzian_dihedrals(s);
+    let d = jacobian::all_lorentzian_dihedrals(s);
     for k in 0..10usize {
         print_dihedral(d[k]);
     }
@@ -224,7 +224,7 @@ fn print_derivatives(jac: &[f64; 100], k: usize)
 
 // The rows of the Jacobian.
 fn print_jacobian(s: &[f64; 10], eps: f64) {
-    let jac = lorentzian::all_lorentzian_dihedrals_jacobian(s, eps);
+    let jac = jacobian::all_lorentzian_dihedrals_jacobian(s, eps);
     for k in 0..10 {
         print_derivatives(&jac, k);
     }

@@ -13,7 +13,7 @@
 // table of refusals.
 use complex::Built;
 use complex::Counts;
-use complex::TriangleNumber;
+use incidence::TriangleNumber;
 use libc::STDIN_FILENO;
 use libc::STDOUT_FILENO;
 use lorentzian::HingeType;
@@ -184,7 +184,7 @@ fn print_kinds(kinds: &[u8]) {
 
 // A line with the signs of lengths.
 fn print_signs(sq_lengths: &[f64]) {
-    let signs = lorentzian_regge::length_signs(sq_lengths);
+    let signs = length_signs::length_signs(sq_lengths);
     print_named(b"timelike", signs.timelike as u64);
     print_named(b" null", signs.null as u64);
     print_named(b" spacelike", signs.spacelike as u64);
@@ -368,7 +368,7 @@ fn print_local_deficits<'a>(
 ) {
     fill_numbers(tris);
     fill_doubles(deficits);
-    let answer = lorentzian_regge::local_deficit_angles(
+    let answer = local_regge::local_deficit_angles(
         counts,
         pents,
         edges,
@@ -412,7 +412,7 @@ fn print_local_grad<'a>(
     grad: &mut [f64],
 ) {
     fill_doubles(grad);
-    let outcome = lorentzian_regge::local_lorentzian_regge_action_grad(
+    let outcome = local_regge::local_lorentzian_regge_action_grad(
         counts,
         pents,
         edges,
@@ -451,7 +451,7 @@ fn print_hessian<'a>(
     hessian: &mut [f64],
 ) {
     fill_doubles(hessian);
-    let outcome = lorentzian_regge::local_lorentzian_regge_hessian(
+    let outcome = local_regge::local_lorentzian_regge_hessian(
         counts,
         pents,
         edges,
@@ -775,7 +775,7 @@ fn print_given(line: &[u8], given: &[u32]) {
     let mut edge_to_tris_starts = [0; 240];
     let mut edge_to_pents_items = [0; 240];
     let mut edge_to_pents_starts = [0; 240];
-    let built = complex::from_pentachorons(
+    let built = builder::from_pentachorons(
         size_at(line, 0),
         given,
         &mut pents,

@@ -11,9 +11,9 @@
 // answers and the table of refusals.
 use complex::Built;
 use complex::Counts;
-use complex::EdgeNumber;
 use hinge_table::Hinge;
 use hinges::kind_in;
+use incidence::EdgeNumber;
 use libc::STDIN_FILENO;
 use libc::STDOUT_FILENO;
 use lorentzian::HingeType;
@@ -677,7 +677,7 @@ fn print_given(line: &[u8], given: &[u32]) {
     let mut edge_to_tris_starts = [0; 240];
     let mut edge_to_pents_items = [0; 240];
     let mut edge_to_pents_starts = [0; 240];
-    let built = complex::from_pentachorons(
+    let built = builder::from_pentachorons(
         size_at(line, 0),
         given,
         &mut pents,

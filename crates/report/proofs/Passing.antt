@@ -10,8 +10,9 @@ use Rattle.complex.specs.declared.Counts.{Counts}
 use Rattle.complex.specs.Builder.{Lists}
 use Rattle.complex.specs.Check.{writtenAfter}
 use Rattle.hinges.specs.Hinges.{FaceLists, hinges, deficitsOf, kindsOf}
-use Rattle.lorentzian_regge.specs.Calls.{builtCheckOf, lengthsCheckOf, roomCheckOf, shortTable, shortGradient, Tabled, Graded}
-use Rattle.lorentzian_regge.proofs.BuiltCalls.{others-decide}
+use Rattle.calls.specs.Calls.{builtCheckOf, lengthsCheckOf, roomCheckOf, shortTable}
+use Rattle.calls.proofs.BuiltCalls.{others-decide}
+use Rattle.lorentzian_regge.specs.Answers.{shortGradient, Tabled, Graded}
 use Rattle.report.specs.Report.{Evaluable}
 
 module _ (c : Counts) (l : Lists) (lengths deficits kinds grad : ℕ) (ok : Evaluable c l lengths deficits kinds grad) where

@@ -9,15 +9,15 @@ use Rattle.floats.specs.Ops.{zero}
 use Rattle.lists.specs.Lists.{keep}
 use Rattle.lists.specs.Rows.{over}
 use Rattle.lists.proofs.Tests.{said}
+use Rattle.length_signs.specs.declared.LengthSigns.{LengthSigns}
+use Rattle.length_signs.specs.LengthSigns.{signsOf}
 use Rattle.complex.specs.declared.Counts.{Counts}
 use Rattle.complex.specs.declared.Built.{Built}
 use Rattle.complex.specs.declared.Built.the-variants.{Done, Refused}
 use Rattle.complex.specs.Builder.{Lists}
 use Rattle.comparison.proofs.BuiltComplex.{built-says}
 use Rattle.hinges.specs.Hinges.{FaceLists, builtFaces, facesIn}
-use Rattle.lorentzian_regge.specs.declared.signs.LengthSigns.{LengthSigns}
-use Rattle.lorentzian_regge.specs.LengthSigns.{signsOf}
-use Rattle.lorentzian_regge.proofs.BuiltCalls.{built-faces}
+use Rattle.calls.proofs.BuiltCalls.{built-faces}
 use Rattle.packed_input.specs.Format.{sqLengths}
 use Rattle.packed_input.specs.Decoding.{decodedOf, Decodes}
 use Rattle.packed_input.proofs.DecodedComplex.{decoded-built, decoded-pents, decoded-lengths}

@@ -7,6 +7,8 @@ use lib.Ieee.{Float}
 use lib.ListN.{replicate}
 use Rattle.floats.specs.Ops.{zero}
 use Rattle.lists.specs.Rows.{over}
+use Rattle.length_signs.specs.declared.LengthSigns.{LengthSigns}
+use Rattle.length_signs.specs.LengthSigns.{signsOf}
 use Rattle.complex.specs.declared.Counts.{Counts}
 use Rattle.complex.specs.declared.Built.{Built}
 use Rattle.complex.specs.declared.Built.the-variants.{Done, Refused}
@@ -15,8 +17,6 @@ use Rattle.complex.specs.Check.{isBuilt}
 use Rattle.hinges.specs.declared.hinge.Hinge.{Hinge}
 use Rattle.hinges.specs.Hinges.{FaceLists, builtFaces, hinges, deficitsOf, kindsOf}
 use Rattle.hinges.specs.Action as Action
-use Rattle.lorentzian_regge.specs.declared.signs.LengthSigns.{LengthSigns}
-use Rattle.lorentzian_regge.specs.LengthSigns.{signsOf}
 use Rattle.packed_input.specs.Format.{sqLengths}
 use Rattle.packed_input.specs.Decoding.{givenIn, decodedOf}
 

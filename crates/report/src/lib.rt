@@ -2,8 +2,8 @@
 // and the gradient.
 use complex::Built;
 use complex::Counts;
-use lorentzian_regge::LengthSigns;
-use lorentzian_regge::length_signs;
+use length_signs::LengthSigns;
+use length_signs::length_signs;
 use lorentzian_regge::lorentzian_deficit_angles;
 use lorentzian_regge::lorentzian_regge_action_grad;
 use packed_input::decode;
@@ -12,11 +12,11 @@ ghost use mathlib.Core.Bool.{true};
 ghost use Prim.Native.Nat.{_≤_};
 ghost use lib.ListN.{length};
 ghost use Rattle.lists.specs.Rows.{over};
+ghost use Rattle.length_signs.specs.LengthSigns.{signsOf};
 ghost use Rattle.complex.specs.Builder.{lists};
 ghost use Rattle.complex.specs.Check.{isBuilt};
 ghost use Rattle.hinges.specs.Hinges.{facesIn, hinges, deficitsOf, kindsOf};
 ghost use Rattle.hinges.specs.Action.{gradient};
-ghost use Rattle.lorentzian_regge.specs.LengthSigns.{signsOf};
 ghost use Rattle.report.specs.Report.{Evaluable, Evaluates, Reports};
 
 // The counts of the complex or the refusal; the counts of signs; for each triangle its deficit and the byte of its kind, for each

@@ -19,15 +19,15 @@ use Rattle.lists.proofs.Writes.{writes-other, writes-at}
 use Rattle.complex.specs.declared.Counts.{Counts}
 use Rattle.complex.specs.Builder.{Lists}
 use Rattle.complex.specs.Check.{edgesIn, isBuilt}
-use Rattle.complex.specs.Incidence.{Simplices}
+use Rattle.incidence.specs.Incidence.{Simplices}
 use Rattle.comparison.proofs.BuiltComplex.{built-says, built-wide, built-simplices}
 use Rattle.lorentzian.specs.Dihedral.{kindNumber}
 use Rattle.hinges.specs.declared.hinge.Hinge.{Hinge}
 use Rattle.hinges.specs.declared.hinge.KindByte.the-variants.{Kind, NoKind}
 use Rattle.hinges.specs.Hinges.{FaceLists, facesIn, kindIn}
 use Rattle.hinges.proofs.HingeKinds.{kind-byte}
-use Rattle.lorentzian_regge.specs.Calls.{BuiltWith, builtCheckOf, lengthsCheckOf, roomCheckOf, shortTable}
-use Rattle.lorentzian_regge.proofs.BuiltCalls.{done-not-refused, not-built, others-decide}
+use Rattle.calls.specs.Calls.{BuiltWith, builtCheckOf, lengthsCheckOf, roomCheckOf, shortTable}
+use Rattle.calls.proofs.BuiltCalls.{done-not-refused, not-built, others-decide}
 use Rattle.retouch.specs.Retouch.{touched, anew, edgeCheckOf, Retouched}
 use Rattle.retouch.specs.Demand3.{Entry, entryOf, entryIn, bothAt, Agree, workedOut, Matches, Shares, Demand3}
 use Rattle.retouch.proofs.TouchedSteps.{edges-passed, table-room}

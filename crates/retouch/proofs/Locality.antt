@@ -12,10 +12,10 @@ use Rattle.lists.proofs.Elements.{getD-mem, mem-getD, keep-mem, mem-keep, keep-
 use Rattle.lists.proofs.Keys.{find-get}
 use Rattle.lists.proofs.Choices.{combos-within, combos-has}
 use Rattle.complex.specs.Complex.{holding, rowNumbers}
-use Rattle.complex.specs.Incidence.{Simplices, oppositeIndices}
 use Rattle.complex.proofs.Lying.{mem-holding, holding-mem}
+use Rattle.incidence.specs.Incidence.{Simplices, oppositeIndices}
+use Rattle.marks.specs.Marks.{listed}
 use Rattle.hinges.specs.Hinges.{FaceLists, hinge, pentLengths, dihedralOf, hinges, hingeIn, dihedralIn}
-use Rattle.hinges.specs.Local.{listed}
 use Rattle.hinges.proofs.OnePass.{hinge-in}
 use Rattle.retouch.specs.Retouch.{around, touched}
 use Rattle.retouch.specs.Demand3.{Shares}

@@ -24,14 +24,13 @@ use Rattle.complex.specs.Builder.{Lists}
 use Rattle.complex.specs.Check.{pentsIn, edgesIn, trianglesIn, holds}
 use Rattle.complex.proofs.Offences.{or-false}
 use Rattle.comparison.proofs.BuiltComplex.{built-says, built-edge-to-pents}
+use Rattle.marks.specs.Marks.{listed, marked, markedBelow}
+use Rattle.marks.proofs.Marking.{marked-listed, marked-most, listed-below}
 use Rattle.hinges.specs.Hinges.{FaceLists, facesIn}
-use Rattle.hinges.specs.Local.{listed, marked, markedBelow}
 use Rattle.hinges.specs.Parts.{Found, Measured}
-use Rattle.hinges.proofs.TableSteps.{numbers-below}
-use Rattle.hinges.proofs.Marking.{marked-listed, marked-most}
-use Rattle.lorentzian_regge.specs.Calls.{BuiltWith, lengthsCheckOf, roomCheckOf, shortTable}
-use Rattle.lorentzian_regge.proofs.BuiltCalls.{built-measured, lengths-passed, room-passed, done-not-refused}
-use Rattle.lorentzian_regge.proofs.LocalSteps.{listed-below}
+use Rattle.hinges.proofs.PentachoronSteps.{numbers-below}
+use Rattle.calls.specs.Calls.{BuiltWith, lengthsCheckOf, roomCheckOf, shortTable}
+use Rattle.calls.proofs.BuiltCalls.{built-measured, lengths-passed, room-passed, done-not-refused}
 use Rattle.retouch.specs.Retouch.{around, touched, edgeCheckOf}
 
 -- ---- the triangles of pentachorons

@@ -14,9 +14,9 @@ use Rattle.lists.specs.Writes.{writes}
 use Rattle.complex.specs.declared.Counts.{Counts}
 use Rattle.complex.specs.Complex.{holding, rowNumbers}
 use Rattle.lorentzian.specs.Dihedral.{kindNumber}
+use Rattle.marks.specs.Marks.{listed}
 use Rattle.hinges.specs.declared.hinge.Hinge.{Hinge}
 use Rattle.hinges.specs.Hinges.{FaceLists, hinges, hingeIn}
-use Rattle.hinges.specs.Local.{listed}
 
 -- ---- what is worked out anew
 

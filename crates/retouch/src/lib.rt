@@ -3,11 +3,11 @@
 mod records;
 mod touched;
 
+use calls::check_lengths;
+use calls::check_room;
 use comparison::is_built_noting;
 use complex::Counts;
-use complex::EdgeNumber;
-use lorentzian_regge::check_lengths;
-use lorentzian_regge::check_room;
+use incidence::EdgeNumber;
 use records::write_records;
 use refusals::Outcome;
 use refusals::Refusal;
@@ -16,7 +16,7 @@ pub use touched::list_touched;
 ghost use lib.ListN.{length};
 ghost use Rattle.complex.specs.Builder.{lists};
 ghost use Rattle.hinges.specs.Hinges.{facesIn};
-ghost use Rattle.lorentzian_regge.specs.Calls.{BuiltWith, builtCheckOf, lengthsCheckOf, roomCheckOf, shortTable};
+ghost use Rattle.calls.specs.Calls.{BuiltWith, builtCheckOf, lengthsCheckOf, roomCheckOf, shortTable};
 ghost use Rattle.retouch.specs.Retouch.{edgeCheckOf, Retouched};
 
 // The retouch of a built complex. A refused call leaves the three lists as they were.

@@ -1,8 +1,8 @@
 // Records of a table of hinges in two plain lists, worked out anew.
 use complex::Counts;
-use complex::TriangleNumber;
 use hinges::KindByte;
 use hinges::hinge_at;
+use incidence::TriangleNumber;
 ghost use mathlib.Core.Path.{_≡_};
 ghost use Prim.Native.Nat.{ℕ, _≤_, _<_};
 ghost use lib.ListN.{length, getD, take};

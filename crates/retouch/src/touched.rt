@@ -1,12 +1,12 @@
 // The triangles that a retouch works out anew, and the check of its edge.
 use complex::Counts;
-use complex::EdgeNumber;
-use complex::PentachoronNumber;
-use complex::pent_tri_indices;
-use complex::pents_of_edge;
-use hinges::count_marked;
-use hinges::list_marked;
-use hinges::mark_all;
+use incidence::EdgeNumber;
+use incidence::PentachoronNumber;
+use incidence::pent_tri_indices;
+use incidence::pents_of_edge;
+use marks::count_marked;
+use marks::list_marked;
+use marks::mark_all;
 use refusals::Outcome;
 use refusals::Refusal;
 ghost use mathlib.Core.Path.{_≡_};
@@ -15,9 +15,9 @@ ghost use Prim.Native.Nat.{_≤_, _<_};
 ghost use lib.ListN.{length};
 ghost use Rattle.lists.specs.Rows.{over};
 ghost use Rattle.complex.specs.Check.{pentsIn, edgesIn, trianglesIn, holds};
-ghost use Rattle.complex.specs.Incidence.{Tens};
+ghost use Rattle.incidence.specs.Incidence.{Tens};
+ghost use Rattle.marks.specs.Marks.{marked};
 ghost use Rattle.hinges.specs.Hinges.{facesIn};
-ghost use Rattle.hinges.specs.Local.{marked};
 ghost use Rattle.hinges.specs.Parts.{Found};
 ghost use Rattle.retouch.specs.Retouch.{edgeCheckOf, around, touched};
 

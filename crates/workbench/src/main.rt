@@ -2,9 +2,9 @@
 // lengths, its hinges and its gradient, or why the input is refused. All that it prints is in the report.
 use complex::Built;
 use complex::Counts;
+use length_signs::LengthSigns;
 use libc::STDIN_FILENO;
 use libc::STDOUT_FILENO;
-use lorentzian_regge::LengthSigns;
 use printing::print_double;
 use printing::print_end;
 use printing::print_named;

@@ -2,7 +2,7 @@
 use mathlib.Core.Path.{_∙_}
 use borrow.Author.Needs.{needs}
 use Rattle.complex.specs.Builder.{countsOr}
-use Rattle.plain_counts.specs.Counts.{countsList}
+use Rattle.boundary.specs.Counts.{countsList}
 use Rattle.exports.proofs.cjapthumi_from_pentachorons.Statement.{statement}
 use Rattle.exports.proofs.cjapthumi_from_pentachorons.Tie as tie
 

@@ -56,14 +56,14 @@ use Rattle.complex.proofs.Counts as TC
 use Rattle.complex.proofs.Counts.Laws as TC′
 use Rattle.hinges.specs.declared.hinge.Hinge.{Hinge}
 use Rattle.hinges.specs.Hinges.{FaceLists, hinges, hingeIn}
-use Rattle.lorentzian_regge.specs.declared.local_deficits.LocalAnswer.{LocalAnswer}
-use Rattle.lorentzian_regge.specs.Calls.{builtCheckOf, lengthsCheckOf, roomCheckOf, countOr}
-use Rattle.lorentzian_regge.proofs.local_deficits.LocalAnswer as TA
-use Rattle.lorentzian_regge.proofs.local_deficits.LocalAnswer.Laws as TA′
-use Rattle.lorentzian_regge.proofs.local_deficits.LocalAnswer.count_or.Symbol as count-or-def
-use Rattle.lorentzian_regge.proofs.local_deficits.LocalAnswer.count_or.Symbol.{name as #count-or}
-use Rattle.lorentzian_regge.proofs.local_deficits.LocalAnswer.count_or.Met as count-or-thm
-use Rattle.lorentzian_regge.proofs.local_deficits.LocalAnswer.count_or as count-or
+use Rattle.calls.specs.declared.LocalAnswer.{LocalAnswer}
+use Rattle.calls.specs.Calls.{builtCheckOf, lengthsCheckOf, roomCheckOf, countOr}
+use Rattle.calls.proofs.LocalAnswer as TA
+use Rattle.calls.proofs.LocalAnswer.Laws as TA′
+use Rattle.calls.proofs.LocalAnswer.count_or.Symbol as count-or-def
+use Rattle.calls.proofs.LocalAnswer.count_or.Symbol.{name as #count-or}
+use Rattle.calls.proofs.LocalAnswer.count_or.Met as count-or-thm
+use Rattle.calls.proofs.LocalAnswer.count_or as count-or
 use Rattle.hinge_table.specs.Table.{shortRecords, TableWorked}
 use Rattle.hinge_table.specs.Parts.{Begun, outcomeOf}
 use Rattle.hinge_table.proofs.Calls.{Ten, ten-of, ten-lists, ten-faces, ten, ten-refs, ten-vals, OwnTen, ten-copies, R, RC, RA, value, CountOr, OutcomeOf, WriteRecords, to-count, asks-count, says-count, to-outcome, asks-outcome, says-outcome, to-write, asks-write, Wrote, says-write}
@@ -343,6 +343,6 @@ lorentzian-deficit-angles-spec 𝓤 H 𝓜 𝓖 𝓡 =
     (tables 𝓤 H 𝓜 𝓡 code.env .C) (tables 𝓤 H 𝓜 𝓡 code.env .Λ) #lorentzian-deficit-angles code.function (code.unfolded 𝓤 H 𝓜 𝓡)
     (lorentzian-deficit-angles-meets 𝓤 H (𝓖 .A) (givenOf 𝓤 H 𝓜 𝓖) (𝓜 .mem) (𝓡 .run) (tablesOf 𝓤 H 𝓜 (tables 𝓤 H 𝓜 𝓡 code.env))
     (cited 𝓤 H (BeginTable 𝓤 H (𝓖 .A) (𝓜 .mem) (𝓡 .run)) 𝓜 𝓡 code.env #begin-table begin-table-def.routine code.calls-hinge-table·begin·begin-table (begin-table-thm.met 𝓤 H 𝓜 𝓖 𝓡))
-    (cited 𝓤 H (CountOr 𝓤 H (𝓖 .A) (𝓜 .mem) (𝓡 .run)) 𝓜 𝓡 code.env #count-or count-or-def.routine code.calls-lorentzian-regge·local-deficits·LocalAnswer·count-or (count-or-thm.met 𝓤 H 𝓜 𝓖 𝓡))
+    (cited 𝓤 H (CountOr 𝓤 H (𝓖 .A) (𝓜 .mem) (𝓡 .run)) 𝓜 𝓡 code.env #count-or count-or-def.routine code.calls-calls·LocalAnswer·count-or (count-or-thm.met 𝓤 H 𝓜 𝓖 𝓡))
     (cited 𝓤 H (WriteRecords 𝓤 H (𝓖 .A) (𝓜 .mem) (𝓡 .run)) 𝓜 𝓡 code.env #write-records write-records-def.routine code.calls-hinge-table·write-records (write-records-thm.met 𝓤 H 𝓜 𝓖 𝓡))
     (cited 𝓤 H (OutcomeOf 𝓤 H (𝓖 .A) (𝓜 .mem) (𝓡 .run)) 𝓜 𝓡 code.env #outcome-of outcome-of-def.routine code.calls-hinge-table·begin·outcome-of (outcome-of-thm.met 𝓤 H 𝓜 𝓖 𝓡)))

@@ -57,7 +57,7 @@ use Rattle.hinges.specs.declared.hinge.Hinge.{Hinge}
 use Rattle.hinges.specs.Hinges.{FaceLists}
 use Rattle.hinges.proofs.hinge.Hinge as T
 use Rattle.hinges.proofs.hinge.Hinge.Laws as T′
-use Rattle.lorentzian_regge.specs.Calls.{builtCheckOf, lengthsCheckOf, roomCheckOf}
+use Rattle.calls.specs.Calls.{builtCheckOf, lengthsCheckOf, roomCheckOf}
 use Rattle.hinge_table.specs.declared.TableAnswer.{TableAnswer}
 use Rattle.hinge_table.specs.Table.{shortRecords, TableWorked}
 use Rattle.hinge_table.proofs.Answer.{answer-is}

@@ -52,21 +52,21 @@ use Rattle.refusals.proofs.Outcome as TO
 use Rattle.refusals.proofs.Outcome.Laws as TO′
 use Rattle.lists.specs.Writes.{writes}
 use Rattle.complex.specs.declared.Counts.{Counts}
-use Rattle.complex.specs.declared.incidence.EdgeNumber.{EdgeNumber}
 use Rattle.complex.proofs.Counts as TC
 use Rattle.complex.proofs.Counts.Laws as TC′
-use Rattle.complex.proofs.incidence.EdgeNumber as TE
-use Rattle.complex.proofs.incidence.EdgeNumber.Laws as TE′
+use Rattle.incidence.specs.declared.EdgeNumber.{EdgeNumber}
+use Rattle.incidence.proofs.EdgeNumber as TE
+use Rattle.incidence.proofs.EdgeNumber.Laws as TE′
 use Rattle.hinges.specs.declared.hinge.Hinge.{Hinge}
 use Rattle.hinges.specs.Hinges.{FaceLists, hinges, hingeIn}
-use Rattle.lorentzian_regge.specs.declared.local_deficits.LocalAnswer.{LocalAnswer}
-use Rattle.lorentzian_regge.specs.Calls.{builtCheckOf, lengthsCheckOf, roomCheckOf, countOr}
-use Rattle.lorentzian_regge.proofs.local_deficits.LocalAnswer as TA
-use Rattle.lorentzian_regge.proofs.local_deficits.LocalAnswer.Laws as TA′
-use Rattle.lorentzian_regge.proofs.local_deficits.LocalAnswer.count_or.Symbol as count-or-def
-use Rattle.lorentzian_regge.proofs.local_deficits.LocalAnswer.count_or.Symbol.{name as #count-or}
-use Rattle.lorentzian_regge.proofs.local_deficits.LocalAnswer.count_or.Met as count-or-thm
-use Rattle.lorentzian_regge.proofs.local_deficits.LocalAnswer.count_or as count-or
+use Rattle.calls.specs.declared.LocalAnswer.{LocalAnswer}
+use Rattle.calls.specs.Calls.{builtCheckOf, lengthsCheckOf, roomCheckOf, countOr}
+use Rattle.calls.proofs.LocalAnswer as TA
+use Rattle.calls.proofs.LocalAnswer.Laws as TA′
+use Rattle.calls.proofs.LocalAnswer.count_or.Symbol as count-or-def
+use Rattle.calls.proofs.LocalAnswer.count_or.Symbol.{name as #count-or}
+use Rattle.calls.proofs.LocalAnswer.count_or.Met as count-or-thm
+use Rattle.calls.proofs.LocalAnswer.count_or as count-or
 use Rattle.retouch.specs.Retouch.{edgeCheckOf, touched, after}
 use Rattle.hinge_table.specs.Table.{shortRecords, TableRetouched}
 use Rattle.hinge_table.specs.Parts.{Ready, Begun, outcomeOf}
@@ -377,6 +377,6 @@ retouch-spec 𝓤 H 𝓜 𝓖 𝓡 =
     (tables 𝓤 H 𝓜 𝓡 code.env .C) (tables 𝓤 H 𝓜 𝓡 code.env .Λ) #retouch code.function (code.unfolded 𝓤 H 𝓜 𝓡)
     (retouch-meets 𝓤 H (𝓖 .A) (givenOf 𝓤 H 𝓜 𝓖) (𝓜 .mem) (𝓡 .run) (tablesOf 𝓤 H 𝓜 (tables 𝓤 H 𝓜 𝓡 code.env))
     (cited 𝓤 H (BeginRetouch 𝓤 H (𝓖 .A) (𝓜 .mem) (𝓡 .run)) 𝓜 𝓡 code.env #begin-retouch begin-retouch-def.routine code.calls-hinge-table·begin·begin-retouch (begin-retouch-thm.met 𝓤 H 𝓜 𝓖 𝓡))
-    (cited 𝓤 H (CountOr 𝓤 H (𝓖 .A) (𝓜 .mem) (𝓡 .run)) 𝓜 𝓡 code.env #count-or count-or-def.routine code.calls-lorentzian-regge·local-deficits·LocalAnswer·count-or (count-or-thm.met 𝓤 H 𝓜 𝓖 𝓡))
+    (cited 𝓤 H (CountOr 𝓤 H (𝓖 .A) (𝓜 .mem) (𝓡 .run)) 𝓜 𝓡 code.env #count-or count-or-def.routine code.calls-calls·LocalAnswer·count-or (count-or-thm.met 𝓤 H 𝓜 𝓖 𝓡))
     (cited 𝓤 H (WriteRecords 𝓤 H (𝓖 .A) (𝓜 .mem) (𝓡 .run)) 𝓜 𝓡 code.env #write-records write-records-def.routine code.calls-hinge-table·write-records (write-records-thm.met 𝓤 H 𝓜 𝓖 𝓡))
     (cited 𝓤 H (OutcomeOf 𝓤 H (𝓖 .A) (𝓜 .mem) (𝓡 .run)) 𝓜 𝓡 code.env #outcome-of outcome-of-def.routine code.calls-hinge-table·begin·outcome-of (outcome-of-thm.met 𝓤 H 𝓜 𝓖 𝓡)))

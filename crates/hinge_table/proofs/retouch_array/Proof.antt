@@ -52,16 +52,16 @@ use Rattle.refusals.specs.declared.Outcome.{Outcome}
 use Rattle.refusals.proofs.Outcome as TO
 use Rattle.refusals.proofs.Outcome.Laws as TO′
 use Rattle.complex.specs.declared.Counts.{Counts}
-use Rattle.complex.specs.declared.incidence.EdgeNumber.{EdgeNumber}
 use Rattle.complex.proofs.Counts as TC
 use Rattle.complex.proofs.Counts.Laws as TC′
-use Rattle.complex.proofs.incidence.EdgeNumber as TE
-use Rattle.complex.proofs.incidence.EdgeNumber.Laws as TE′
+use Rattle.incidence.specs.declared.EdgeNumber.{EdgeNumber}
+use Rattle.incidence.proofs.EdgeNumber as TE
+use Rattle.incidence.proofs.EdgeNumber.Laws as TE′
 use Rattle.hinges.specs.declared.hinge.Hinge.{Hinge}
 use Rattle.hinges.specs.Hinges.{FaceLists}
 use Rattle.hinges.proofs.hinge.Hinge as T
 use Rattle.hinges.proofs.hinge.Hinge.Laws as T′
-use Rattle.lorentzian_regge.specs.Calls.{builtCheckOf, lengthsCheckOf, roomCheckOf}
+use Rattle.calls.specs.Calls.{builtCheckOf, lengthsCheckOf, roomCheckOf}
 use Rattle.retouch.specs.Retouch.{edgeCheckOf}
 use Rattle.hinge_table.specs.declared.TableAnswer.{TableAnswer}
 use Rattle.hinge_table.specs.Table.{shortRecords, TableRetouched}

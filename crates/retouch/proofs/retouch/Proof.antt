@@ -5,8 +5,8 @@ use borrow.Author.Tests.{not-true, not-false}
 use borrow.Author.Needs.{needs}
 use Rattle.complex.specs.Builder.{lists}
 use Rattle.comparison.proofs.Comparisons.{noted-of}
-use Rattle.lorentzian_regge.specs.Calls.{lengthsCheckOf, roomCheckOf, shortTable}
-use Rattle.lorentzian_regge.proofs.BuiltCalls.{not-built, others-decide}
+use Rattle.calls.specs.Calls.{lengthsCheckOf, roomCheckOf, shortTable}
+use Rattle.calls.proofs.BuiltCalls.{not-built, others-decide}
 use Rattle.retouch.specs.Retouch.{edgeCheckOf}
 use Rattle.retouch.proofs.retouch.Statement.{statement}
 use Rattle.retouch.proofs.retouch.Tie as tie

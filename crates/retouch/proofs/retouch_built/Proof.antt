@@ -8,9 +8,9 @@ use Rattle.lists.specs.Writes.{writes}
 use Rattle.lists.proofs.Rows.{over-take}
 use Rattle.complex.specs.Builder.{lists}
 use Rattle.lorentzian.specs.Dihedral.{kindNumber}
+use Rattle.marks.proofs.Marking.{scratch-room}
 use Rattle.hinges.specs.Hinges.{facesIn}
-use Rattle.hinges.proofs.Marking.{scratch-room}
-use Rattle.lorentzian_regge.specs.Calls.{lengthsCheckOf}
+use Rattle.calls.specs.Calls.{lengthsCheckOf}
 use Rattle.retouch.specs.Retouch.{edgeCheckOf, touched, anew}
 use Rattle.retouch.proofs.TouchedSteps.{table-room, retouch-passed, touched-most, touched-below}
 use Rattle.retouch.proofs.retouch_built.Statement.{statement}

@@ -135,7 +135,7 @@ returns-3 c = let a = c .before .before .before .before .before .before .before 
     let l = c .before .before .before .before .before .before .before .before .before .before .before .before .before .before .loop in
     let many = length-met-rows f (l .k) (a .pents .now) (omega (arith, p .five)) in
     let below = face-below f (l .k) P (omega arith) in
-    let told = rw (c .before .before .before .before .before .before .before .before .before .before .before .before .rows-at .ensures) at (rw count at (rw width at (c .before .before .before .before .before .before .before .match-rows .ensures))) in
+    let told = rw (c .before .before .before .before .before .before .before .before .before .before .before .before .rows-at .ensures .0) at (rw count at (rw width at (c .before .before .before .before .before .before .before .match-rows .ensures))) in
     let off = not-true (c .before .before .before .before .before .before .before .match-rows .result .same) (c .if3 .taken) in (
       sym (has-others f (a .pents .now) (a .n-faces) (a .list .now) (l .k) P (omega arith) (rw (← (l .inv .5 .known)) (told .no off))),
       (
@@ -161,7 +161,7 @@ loop-again c = let a = c .before .before .before .before .before .before .before
     let l = c .before .before .before .before .before .before .before .before .before .before .before .before .before .before .loop in
     let many = length-met-rows f (l .k) (a .pents .now) (omega (arith, p .five)) in
     let below = face-below f (l .k) P (omega arith) in
-    let told = rw (c .before .before .before .before .before .before .before .before .before .before .before .before .rows-at .ensures) at (rw count at (rw width at (c .before .before .before .before .before .before .before .match-rows .ensures))) in
+    let told = rw (c .before .before .before .before .before .before .before .before .before .before .before .before .rows-at .ensures .0) at (rw count at (rw width at (c .before .before .before .before .before .before .before .match-rows .ensures))) in
     let on = told .yes (not-false (c .before .before .before .before .before .before .before .match-rows .result .same) (c .if3 .left)) in (
       omega arith,
       c .before .before .before .before .before .before .before .match-rows .kept .1 .1 .0 ∙ l .inv .1,

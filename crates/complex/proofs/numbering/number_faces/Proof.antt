@@ -93,7 +93,7 @@ loop-again c =
     let many = length-met-rows f (l .k) (a .pents .now) (omega arith) in
     let below = face-below f (l .k) P (omega arith) in
     let g = c .before .before .before .before .before .before .before .meet-rows in
-    let all = rw (c .before .before .before .before .before .before .before .before .before .before .before .before .before .rows-at .ensures) at (rw count at (rw width at (g .ensures))) in (
+    let all = rw (c .before .before .before .before .before .before .before .before .before .before .before .before .before .rows-at .ensures .0) at (rw count at (rw width at (g .ensures))) in (
       omega arith,
       g .kept .0 ∙ l .inv .1,
       g .kept .1 .1 .0 ∙ l .inv .2,

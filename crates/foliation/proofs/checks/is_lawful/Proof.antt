@@ -1,8 +1,8 @@
 -- `foliation::checks::is_lawful` meets its contract. Assumes nothing.
 use mathlib.Core.Path.{sym}
 use native.Mathlib.Omega.{arith}
-use Rattle.foliation.proofs.Sizes.{lawful-says, square-most, cube-most, cells-most}
 use Rattle.lists.proofs.Tests.{leb-says, says-same, fails}
+use Rattle.foliation.proofs.Sizes.{lawful-says, square-most, cube-most, cells-most}
 use Rattle.foliation.proofs.checks.is_lawful.Statement.{statement}
 use Rattle.foliation.proofs.checks.is_lawful.Tie as tie
 

@@ -5,8 +5,8 @@ use native.Mathlib.Omega.{arith}
 use borrow.Author.Needs.{needs}
 use Rattle.floats.specs.Ops.{zero}
 use Rattle.lists.proofs.Rows.{length-rows}
+use Rattle.marks.proofs.Marking.{scratch-room}
 use Rattle.hinges.specs.Hinges.{FaceLists, facesIn}
-use Rattle.hinges.proofs.Marking.{scratch-room}
 use Rattle.hessian.proofs.HessianTerms.{first-whole}
 use Rattle.hessian.proofs.matrix.add_first_term.Statement.{statement}
 use Rattle.hessian.proofs.matrix.add_first_term.Tie as tie

@@ -4,7 +4,7 @@ use lib.ListN.{length}
 use borrow.Author.Needs.{needs}
 use Rattle.lists.specs.Loops.{scatter}
 use Rattle.hinges.specs.Hinges.{FaceLists, facesIn}
-use Rattle.hinges.proofs.TableSteps.{own-edges}
+use Rattle.hinges.proofs.PentachoronSteps.{own-edges}
 use Rattle.hessian.specs.Parts.{secondAt}
 use Rattle.hessian.proofs.HessianLoops.{if-marked, if-not-marked, second-event}
 use Rattle.hessian.proofs.matrix.add_marked_pent.Statement.{statement}

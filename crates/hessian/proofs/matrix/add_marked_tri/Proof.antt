@@ -4,7 +4,7 @@ use native.Mathlib.Omega.{arith}
 use lib.ListN.{length}
 use borrow.Author.Needs.{needs}
 use Rattle.lists.specs.Loops.{scatter}
-use Rattle.complex.specs.Incidence.{edgeList}
+use Rattle.incidence.specs.Incidence.{edgeList}
 use Rattle.hinges.specs.Hinges.{FaceLists, facesIn}
 use Rattle.hinges.proofs.TriangleSteps.{edges-below}
 use Rattle.hessian.specs.Parts.{diagonalAt, firstAt}

@@ -11,7 +11,8 @@ use Rattle.lists.specs.Lists.{gather, upto}
 use Rattle.lists.specs.Loops.{scatter}
 use Rattle.lists.proofs.Loops.{scatter-turn}
 use Rattle.hinges.specs.Hinges.{FaceLists, facesIn}
-use Rattle.hessian.specs.Parts.{before, diagonalAt, firstAt}
+use Rattle.second_derivatives.specs.Parts.{before}
+use Rattle.hessian.specs.Parts.{diagonalAt, firstAt}
 use Rattle.hessian.specs.Steps.{ifMarked}
 use Rattle.hessian.proofs.HessianLoops.{marked-events}
 use Rattle.hessian.proofs.matrix.add_marked_tris.Statement.{statement}

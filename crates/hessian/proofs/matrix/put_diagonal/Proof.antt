@@ -10,8 +10,8 @@ use borrow.Author.Needs.{needs}
 use Rattle.lists.specs.Lists.{upto}
 use Rattle.lists.specs.Loops.{scatter}
 use Rattle.lists.proofs.Loops.{scatter-next}
+use Rattle.second_derivatives.proofs.Placing.{place-below, place-small}
 use Rattle.hessian.specs.Steps.{ahead, diagonalEvents}
-use Rattle.hessian.proofs.Placing.{place-below, place-small}
 use Rattle.hessian.proofs.matrix.put_diagonal.Statement.{statement}
 use Rattle.hessian.proofs.matrix.put_diagonal.Tie as tie
 

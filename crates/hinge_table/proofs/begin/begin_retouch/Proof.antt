@@ -5,8 +5,8 @@ use lib.ListN.{length, set}
 use borrow.Author.Needs.{needs}
 use borrow.Author.Tests.{not-true, not-false}
 use Rattle.complex.specs.Builder.{lists}
-use Rattle.lorentzian_regge.specs.Calls.{lengthsCheckOf, roomCheckOf}
-use Rattle.lorentzian_regge.proofs.BuiltCalls.{not-built, others-decide}
+use Rattle.calls.specs.Calls.{lengthsCheckOf, roomCheckOf}
+use Rattle.calls.proofs.BuiltCalls.{not-built, others-decide}
 use Rattle.retouch.specs.Retouch.{edgeCheckOf, after}
 use Rattle.retouch.proofs.TouchedSteps.{retouch-passed, touched-below}
 use Rattle.hinge_table.specs.Table.{shortRecords}

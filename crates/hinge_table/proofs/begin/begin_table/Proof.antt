@@ -5,8 +5,8 @@ use borrow.Author.Needs.{needs}
 use borrow.Author.Tests.{not-true, not-false}
 use Rattle.lists.proofs.Elements.{length-upto}
 use Rattle.complex.specs.Builder.{lists}
-use Rattle.lorentzian_regge.specs.Calls.{lengthsCheckOf, roomCheckOf}
-use Rattle.lorentzian_regge.proofs.BuiltCalls.{not-built, others-decide}
+use Rattle.calls.specs.Calls.{lengthsCheckOf, roomCheckOf}
+use Rattle.calls.proofs.BuiltCalls.{not-built, others-decide}
 use Rattle.hinge_table.specs.Table.{shortRecords}
 use Rattle.hinge_table.proofs.TableSteps.{built-with, table-passed, upto-below, begun-refused, begun-done}
 use Rattle.hinge_table.proofs.begin.begin_table.Statement.{statement}

@@ -4,7 +4,7 @@ use mathlib.Core.List.{[]}
 use lib.ListN.{length, getD}
 use Rattle.complex.specs.Check.{pentsIn, trianglesIn}
 use Rattle.hinges.specs.Hinges.{pentLengths, dihedralIn}
-use Rattle.hinges.proofs.TableSteps.{pent-five, own-edges}
+use Rattle.hinges.proofs.PentachoronSteps.{pent-five, own-edges}
 use Rattle.hinges.proofs.TriangleSteps.{opposite-below}
 use Rattle.hinges.proofs.triangle.dihedral_in.Statement.{statement}
 use Rattle.hinges.proofs.triangle.dihedral_in.Tie as tie

@@ -13,7 +13,7 @@ use Rattle.complex.specs.Check.{trianglesIn}
 use Rattle.lorentzian.specs.declared.dihedral.Dihedral.{Dihedral}
 use Rattle.hinges.specs.declared.hinge.KindByte.the-variants.{NoKind}
 use Rattle.hinges.specs.Hinges.{FaceLists, facesIn, plus, first, hinge, dihedralIn, closed}
-use Rattle.hinges.proofs.TableSteps.{pents-wide}
+use Rattle.hinges.proofs.PentachoronSteps.{pents-wide}
 use Rattle.hinges.proofs.TriangleSteps.{holder-lies}
 use Rattle.hinges.proofs.OnePass.{hinge-in}
 use Rattle.hinges.proofs.triangle.hinge_at.Statement.{statement}

@@ -8,8 +8,9 @@ use Rattle.complex.specs.Builder.{lists}
 use Rattle.comparison.proofs.Comparisons.{noted-of}
 use Rattle.hinges.specs.Hinges.{facesIn}
 use Rattle.hinges.specs.Action.{action}
-use Rattle.lorentzian_regge.specs.Calls.{lengthsCheckOf, actionBy}
-use Rattle.lorentzian_regge.proofs.BuiltCalls.{not-built, others-decide}
+use Rattle.calls.specs.Calls.{lengthsCheckOf}
+use Rattle.calls.proofs.BuiltCalls.{not-built, others-decide}
+use Rattle.lorentzian_regge.specs.Answers.{actionBy}
 use Rattle.lorentzian_regge.proofs.action.lorentzian_regge_action.Statement.{statement}
 use Rattle.lorentzian_regge.proofs.action.lorentzian_regge_action.Tie as tie
 

@@ -7,12 +7,12 @@ use borrow.Author.Needs.{needs}
 use Rattle.refusals.specs.declared.Outcome.the-variants as Outcome
 use Rattle.floats.specs.Ops.{zero}
 use Rattle.complex.specs.Builder.{lists}
+use Rattle.marks.proofs.Marking.{scratch-room}
 use Rattle.hinges.specs.Hinges.{facesIn}
 use Rattle.hinges.specs.Action.{action}
+use Rattle.calls.proofs.BuiltCalls.{built-measured, lengths-passed}
 use Rattle.lorentzian_regge.specs.declared.action.ActionAnswer.the-variants.{Done}
-use Rattle.lorentzian_regge.specs.Calls.{actionBy}
-use Rattle.lorentzian_regge.proofs.BuiltCalls.{built-measured, lengths-passed}
-use Rattle.hinges.proofs.Marking.{scratch-room}
+use Rattle.lorentzian_regge.specs.Answers.{actionBy}
 use Rattle.lorentzian_regge.proofs.Scratch.{action-front}
 use Rattle.lorentzian_regge.proofs.action.lorentzian_regge_action_built.Statement.{statement}
 use Rattle.lorentzian_regge.proofs.action.lorentzian_regge_action_built.Tie as tie

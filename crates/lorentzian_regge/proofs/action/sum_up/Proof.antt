@@ -10,7 +10,7 @@ use Rattle.floats.specs.Ops.{_⊕_, _⊗_, zero}
 use Rattle.lists.specs.Lists.{upto}
 use Rattle.lists.proofs.Rows.{length-rows}
 use Rattle.lists.proofs.Folds.{fold-upto}
-use Rattle.complex.specs.Incidence.{edgeList}
+use Rattle.incidence.specs.Incidence.{edgeList}
 use Rattle.hinges.specs.Hinges.{FaceLists, facesIn, lengthsAt}
 use Rattle.hinges.specs.Action.{triLengths, absArea, actionOf}
 use Rattle.hinges.proofs.TriangleSteps.{edges-below}

@@ -6,8 +6,9 @@ use borrow.Author.Needs.{needs}
 use Rattle.complex.specs.Builder.{lists}
 use Rattle.comparison.proofs.Comparisons.{noted-of}
 use Rattle.hinges.specs.Hinges.{facesIn, hinges, hingeIn}
-use Rattle.lorentzian_regge.specs.Calls.{lengthsCheckOf, triangleCheckOf, hingeBy}
-use Rattle.lorentzian_regge.proofs.BuiltCalls.{not-built, others-decide}
+use Rattle.calls.specs.Calls.{lengthsCheckOf, triangleCheckOf}
+use Rattle.calls.proofs.BuiltCalls.{not-built, others-decide}
+use Rattle.lorentzian_regge.specs.Answers.{hingeBy}
 use Rattle.lorentzian_regge.proofs.deficits.lorentzian_deficit_angle.Statement.{statement}
 use Rattle.lorentzian_regge.proofs.deficits.lorentzian_deficit_angle.Tie as tie
 

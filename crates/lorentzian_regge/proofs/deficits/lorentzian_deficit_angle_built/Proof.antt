@@ -4,9 +4,10 @@ use lib.ListN.{length}
 use borrow.Author.Needs.{needs}
 use Rattle.complex.specs.Builder.{lists}
 use Rattle.hinges.specs.Hinges.{facesIn, hinges, hingeIn}
+use Rattle.calls.specs.Calls.{lengthsCheckOf, triangleCheckOf}
+use Rattle.calls.proofs.BuiltCalls.{built-measured, lengths-passed, triangle-passed}
 use Rattle.lorentzian_regge.specs.declared.deficits.HingeAnswer.the-variants.{Done}
-use Rattle.lorentzian_regge.specs.Calls.{lengthsCheckOf, triangleCheckOf, hingeBy}
-use Rattle.lorentzian_regge.proofs.BuiltCalls.{built-measured, lengths-passed, triangle-passed}
+use Rattle.lorentzian_regge.specs.Answers.{hingeBy}
 use Rattle.lorentzian_regge.proofs.deficits.lorentzian_deficit_angle_built.Statement.{statement}
 use Rattle.lorentzian_regge.proofs.deficits.lorentzian_deficit_angle_built.Tie as tie
 

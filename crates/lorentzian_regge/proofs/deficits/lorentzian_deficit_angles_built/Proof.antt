@@ -6,8 +6,8 @@ use borrow.Author.Tests.{ltb-false}
 use borrow.Author.Needs.{needs}
 use Rattle.complex.specs.Builder.{lists}
 use Rattle.complex.proofs.Offences.{or-false}
-use Rattle.lorentzian_regge.specs.Calls.{lengthsCheckOf, roomCheckOf, shortTable}
-use Rattle.lorentzian_regge.proofs.BuiltCalls.{built-measured, lengths-passed, room-passed}
+use Rattle.calls.specs.Calls.{lengthsCheckOf, roomCheckOf, shortTable}
+use Rattle.calls.proofs.BuiltCalls.{built-measured, lengths-passed, room-passed}
 use Rattle.lorentzian_regge.proofs.deficits.lorentzian_deficit_angles_built.Statement.{statement}
 use Rattle.lorentzian_regge.proofs.deficits.lorentzian_deficit_angles_built.Tie as tie
 

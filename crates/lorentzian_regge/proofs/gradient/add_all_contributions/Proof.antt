@@ -9,7 +9,7 @@ use Rattle.floats.specs.Ops.{_⊕_}
 use Rattle.lists.specs.Lists.{gather, upto}
 use Rattle.lists.specs.Loops.{scatter}
 use Rattle.lists.proofs.Loops.{scatter-turn}
-use Rattle.complex.specs.Incidence.{edgeList}
+use Rattle.incidence.specs.Incidence.{edgeList}
 use Rattle.hinges.specs.Hinges.{FaceLists, facesIn, lengthsAt}
 use Rattle.hinges.specs.Action.{edgesAt, triLengths, contributionsOf, contributions}
 use Rattle.hinges.proofs.TriangleSteps.{edges-below}

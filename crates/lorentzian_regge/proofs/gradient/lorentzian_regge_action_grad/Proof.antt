@@ -5,8 +5,9 @@ use borrow.Author.Tests.{not-true, not-false}
 use borrow.Author.Needs.{needs}
 use Rattle.complex.specs.Builder.{lists}
 use Rattle.comparison.proofs.Comparisons.{noted-of}
-use Rattle.lorentzian_regge.specs.Calls.{lengthsCheckOf, roomCheckOf, shortGradient}
-use Rattle.lorentzian_regge.proofs.BuiltCalls.{not-built, others-decide}
+use Rattle.calls.specs.Calls.{lengthsCheckOf, roomCheckOf}
+use Rattle.calls.proofs.BuiltCalls.{not-built, others-decide}
+use Rattle.lorentzian_regge.specs.Answers.{shortGradient}
 use Rattle.lorentzian_regge.proofs.gradient.lorentzian_regge_action_grad.Statement.{statement}
 use Rattle.lorentzian_regge.proofs.gradient.lorentzian_regge_action_grad.Tie as tie
 

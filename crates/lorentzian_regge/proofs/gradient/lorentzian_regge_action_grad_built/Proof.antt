@@ -8,10 +8,11 @@ use borrow.Author.Needs.{needs}
 use Rattle.floats.specs.Ops.{zero}
 use Rattle.lists.specs.Rows.{over}
 use Rattle.complex.specs.Builder.{lists}
+use Rattle.marks.proofs.Marking.{scratch-room}
 use Rattle.hinges.specs.Hinges.{facesIn}
-use Rattle.lorentzian_regge.specs.Calls.{lengthsCheckOf, roomCheckOf, shortGradient}
-use Rattle.lorentzian_regge.proofs.BuiltCalls.{built-measured, lengths-passed, room-passed}
-use Rattle.hinges.proofs.Marking.{scratch-room}
+use Rattle.calls.specs.Calls.{lengthsCheckOf, roomCheckOf}
+use Rattle.calls.proofs.BuiltCalls.{built-measured, lengths-passed, room-passed}
+use Rattle.lorentzian_regge.specs.Answers.{shortGradient}
 use Rattle.lorentzian_regge.proofs.Scratch.{entries-over, gradient-front}
 use Rattle.lorentzian_regge.proofs.gradient.lorentzian_regge_action_grad_built.Statement.{statement}
 use Rattle.lorentzian_regge.proofs.gradient.lorentzian_regge_action_grad_built.Tie as tie

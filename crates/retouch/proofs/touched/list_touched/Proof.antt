@@ -5,7 +5,7 @@ use native.Mathlib.Omega.{arith}
 use lib.ListN.{length}
 use borrow.Author.Needs.{needs}
 use Rattle.lists.specs.Rows.{over}
-use Rattle.hinges.proofs.Marking.{scratch-room, marked-most}
+use Rattle.marks.proofs.Marking.{scratch-room, marked-most}
 use Rattle.retouch.proofs.TouchedSteps.{marks-touched}
 use Rattle.retouch.proofs.touched.list_touched.Statement.{statement}
 use Rattle.retouch.proofs.touched.list_touched.Tie as tie

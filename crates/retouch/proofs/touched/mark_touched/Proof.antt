@@ -9,9 +9,9 @@ use borrow.Author.Needs.{needs}
 use Rattle.lists.specs.Lists.{gather}
 use Rattle.lists.proofs.Rows.{length-rows}
 use Rattle.complex.specs.Check.{pentsIn, edgesIn}
+use Rattle.marks.specs.Marks.{marked}
+use Rattle.marks.proofs.Marking.{marked-append, holding-below}
 use Rattle.hinges.specs.Hinges.{facesIn}
-use Rattle.hinges.specs.Local.{marked}
-use Rattle.hinges.proofs.Marking.{marked-append, holding-below}
 use Rattle.retouch.specs.Retouch.{around}
 use Rattle.retouch.proofs.TouchedSteps.{trianglesOf, triangles-next, triangles-below}
 use Rattle.retouch.proofs.touched.mark_touched.Statement.{statement}

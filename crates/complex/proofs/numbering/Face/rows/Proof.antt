@@ -26,15 +26,15 @@ joined-requires-3 c κs = search needs
 
 returns : tie.Need-returns
 unfolding rows combos upto
-returns c = rw (c .before .enum-told .given .1, c .joined .ensures) refl
+returns c = (rw (c .before .enum-told .given .1, c .joined .ensures) refl, rw (c .before .enum-told .given .1, c .joined .ensures) refl)
 
 returns-2 : tie.Need-returns-2
 unfolding rows combos upto
-returns-2 c = rw (c .before .enum-told2 .given .1, c .joined2 .ensures) refl
+returns-2 c = (rw (c .before .enum-told2 .given .1, c .joined2 .ensures) refl, rw (c .before .enum-told2 .given .1, c .joined2 .ensures) refl)
 
 returns-3 : tie.Need-returns-3
 unfolding rows combos upto
-returns-3 c = rw (c .before .enum-told3 .given .1, c .joined3 .ensures) refl
+returns-3 c = (rw (c .before .enum-told3 .given .1, c .joined3 .ensures) refl, rw (c .before .enum-told3 .given .1, c .joined3 .ensures) refl)
 
 pub rows-spec : {M : Type 1} → statement M
 rows-spec =

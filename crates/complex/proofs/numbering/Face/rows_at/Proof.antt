@@ -50,7 +50,7 @@ rows-requires : tie.Need-rows-requires
 rows-requires c κs = search needs
 
 returns : tie.Need-returns
-returns c = let a = c .before .before .before .before .before .before .before .args in rw (take-five (a .pents .now) (a .at) (c .before .before .before .before .before .before .before .pre)) (c .rows .ensures)
+returns c = let a = c .before .before .before .before .before .before .before .args in (rw (take-five (a .pents .now) (a .at) (c .before .before .before .before .before .before .before .pre)) (c .rows .ensures .0), c .rows .ensures .1)
 
 pub rows-at-spec : {M : Type 1} → statement M
 rows-at-spec =

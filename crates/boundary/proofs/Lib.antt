@@ -1,0 +1,2 @@
+-- Laws of the libraries that C calls.
+pub mod CheckedCores

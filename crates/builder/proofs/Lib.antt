@@ -1,0 +1,2 @@
+-- Laws on the builder.
+pub mod Whole

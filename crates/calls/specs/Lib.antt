@@ -1,0 +1,2 @@
+-- The definitions that contracts on calls over a complex cite.
+pub mod Calls

@@ -1,0 +1,2 @@
+-- Laws on incidence, for proofs here and in the crates above.
+pub mod Incident

@@ -1,0 +1,2 @@
+-- The definitions that contracts on incidence cite.
+pub mod Incidence

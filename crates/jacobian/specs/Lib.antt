@@ -1,0 +1,2 @@
+-- The definitions that contracts on the ten dihedrals cite.
+pub mod Jacobian

@@ -1,0 +1,2 @@
+-- Laws on length signs.
+pub mod OneSign

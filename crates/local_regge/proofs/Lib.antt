@@ -1,0 +1,3 @@
+-- Laws on calls with free edges.
+pub mod LocalSteps
+pub mod LocalSums

@@ -1,0 +1,2 @@
+-- The definitions that contracts on calls with free edges cite.
+pub mod LocalCalls

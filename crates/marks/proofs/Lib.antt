@@ -1,0 +1,2 @@
+-- Laws on marks, for proofs here and in the crates above.
+pub mod Marking

@@ -1,0 +1,2 @@
+-- The definitions that contracts on marks cite.
+pub mod Marks

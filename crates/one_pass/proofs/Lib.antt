@@ -1,0 +1,2 @@
+-- Laws on the pass.
+pub mod PassSteps

@@ -1,0 +1,2 @@
+-- The definitions that contracts on the pass cite.
+pub mod Pass
