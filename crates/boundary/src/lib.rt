@@ -1,4 +1,6 @@
 // What the two libraries that C calls share: counts of a complex as five plain numbers, and in specs/ what the contracts of both cite.
+#![tactic(auto)]
+
 ghost use Rattle.std.specs.Prelude.{◌≡◌};
 ghost use Rattle.boundary.specs.Counts.{counts_of_list, counts_list};
 

@@ -1,4 +1,6 @@
 // The builder of a complex from its pentachorons.
+#![tactic(auto)]
+
 mod build;
 
 ghost use Rattle.complex.specs.Builder.{lists, Builds};

@@ -1,4 +1,6 @@
 // What calls over a complex share: what is refused beside a complex that is not built, and a count as the answer.
+#![tactic(auto)]
+
 ghost use Rattle.std.specs.Prelude.{◌≡◌, ◌≤◌};
 ghost use Rattle.calls.specs.Calls.{lengths_check_of, free_check_of, room_check_of, triangle_check_of, count_number, count_or};
 
@@ -53,7 +55,7 @@ pub fn check_triangle(counts: Counts, tri: TriangleNumber) -> Outcome
 }
 
 // How many hinges were written, or why none.
-#[derive(Drop)]
+#[derive(Clone, Copy)]
 pub enum LocalAnswer {
     Done(usize),
     Refused(Refusal),

@@ -9,7 +9,7 @@ ghost use Rattle.comparison.specs.Parts.{Holdable};
 use complex::has;
 
 // How many numbers a row of a flat list has, and how many rows there are.
-#[derive(Drop)]
+#[derive(Clone, Copy)]
 pub struct Shape {
     pub width: usize,
     pub count: usize,

@@ -1,4 +1,6 @@
 // The check behind refusal 7: counts and lists compared with what the builder answers and writes.
+#![tactic(auto)]
+
 mod faces;
 mod holding;
 

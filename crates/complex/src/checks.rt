@@ -6,7 +6,7 @@ ghost use Rattle.complex.specs.Builder.{too_large, repeats, offence, is_short, c
 use refusals::{Outcome, Refusal};
 
 // The lengths of the lent lists.
-#[derive(Drop)]
+#[derive(Clone, Copy)]
 pub struct Rooms {
     pub pents: usize,
     pub edges: usize,

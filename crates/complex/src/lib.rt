@@ -1,4 +1,6 @@
 // The complex of a list of pentachorons: faces numbered by first meeting, and adjacency lists.
+#![tactic(auto)]
+
 mod adjacency_lists;
 mod checks;
 mod numbering;
@@ -14,7 +16,7 @@ use refusals::Refusal;
 pub use sorting::{sort_all, sorted};
 
 // How many of each kind a complex has.
-#[derive(Drop)]
+#[derive(Clone, Copy)]
 pub struct Counts {
     pub vertices: usize,
     pub pentachorons: usize,
@@ -24,7 +26,7 @@ pub struct Counts {
 }
 
 // The builder's answer.
-#[derive(Drop)]
+#[derive(Clone, Copy)]
 pub enum Built {
     Done(Counts),
     Refused(Refusal),

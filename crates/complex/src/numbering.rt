@@ -19,7 +19,7 @@ fn joined(x: [u32; 20], y: [u32; 10]) -> [u32; 30]
 }
 
 // The kinds of faces that are numbered.
-#[derive(Drop)]
+#[derive(Clone, Copy)]
 pub enum Face {
     Edge,
     Triangle,
@@ -123,7 +123,7 @@ pub fn number_faces(
 }
 
 // How many faces of each kind there are.
-#[derive(Drop)]
+#[derive(Clone, Copy)]
 pub struct FaceCounts {
     pub edges: usize,
     pub triangles: usize,

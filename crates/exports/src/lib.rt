@@ -1,4 +1,6 @@
 // The library's functions for C and Rust to call, on numbers and slices alone.
+#![tactic(auto)]
+
 mod local;
 mod regge;
 mod retouching;

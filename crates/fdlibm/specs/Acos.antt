@@ -15,43 +15,43 @@ pio2_hi = dbl 0x3ff9_21fb_5444_2d18
 abbrev pub pio2_lo : Float
 pio2_lo = dbl 0x3c91_a626_3314_5c07
 
-abbrev pub p_s0 : Float
-p_s0 = dbl 0x3fc5_5555_5555_5555
+abbrev pub pS0 : Float
+pS0 = dbl 0x3fc5_5555_5555_5555
 
-abbrev pub p_s1 : Float
-p_s1 = dbl 0xbfd4_d612_03eb_6f7d
+abbrev pub pS1 : Float
+pS1 = dbl 0xbfd4_d612_03eb_6f7d
 
-abbrev pub p_s2 : Float
-p_s2 = dbl 0x3fc9_c155_0e88_4455
+abbrev pub pS2 : Float
+pS2 = dbl 0x3fc9_c155_0e88_4455
 
-abbrev pub p_s3 : Float
-p_s3 = dbl 0xbfa4_8228_b568_8f3b
+abbrev pub pS3 : Float
+pS3 = dbl 0xbfa4_8228_b568_8f3b
 
-abbrev pub p_s4 : Float
-p_s4 = dbl 0x3f49_efe0_7501_b288
+abbrev pub pS4 : Float
+pS4 = dbl 0x3f49_efe0_7501_b288
 
-abbrev pub p_s5 : Float
-p_s5 = dbl 0x3f02_3de1_0dfd_f709
+abbrev pub pS5 : Float
+pS5 = dbl 0x3f02_3de1_0dfd_f709
 
-abbrev pub q_s1 : Float
-q_s1 = dbl 0xc003_3a27_1c8a_2d4b
+abbrev pub qS1 : Float
+qS1 = dbl 0xc003_3a27_1c8a_2d4b
 
-abbrev pub q_s2 : Float
-q_s2 = dbl 0x4000_2ae5_9c59_8ac8
+abbrev pub qS2 : Float
+qS2 = dbl 0x4000_2ae5_9c59_8ac8
 
-abbrev pub q_s3 : Float
-q_s3 = dbl 0xbfe6_066c_1b8d_0159
+abbrev pub qS3 : Float
+qS3 = dbl 0xbfe6_066c_1b8d_0159
 
-abbrev pub q_s4 : Float
-q_s4 = dbl 0x3fb3_b8c5_b12e_9282
+abbrev pub qS4 : Float
+qS4 = dbl 0x3fb3_b8c5_b12e_9282
 
 -- ---- the arc cosine
 
 -- r = p/q at z
 unfoldable pub ratio_of : Float → Float
 ratio_of z =
-    z ⊗ (p_s0 ⊕ z ⊗ (p_s1 ⊕ z ⊗ (p_s2 ⊕ z ⊗ (p_s3 ⊕ z ⊗ (p_s4 ⊕ z ⊗ p_s5)))))
-    ⊘ (one ⊕ z ⊗ (q_s1 ⊕ z ⊗ (q_s2 ⊕ z ⊗ (q_s3 ⊕ z ⊗ q_s4))))
+    z ⊗ (pS0 ⊕ z ⊗ (pS1 ⊕ z ⊗ (pS2 ⊕ z ⊗ (pS3 ⊕ z ⊗ (pS4 ⊕ z ⊗ pS5)))))
+    ⊘ (one ⊕ z ⊗ (qS1 ⊕ z ⊗ (qS2 ⊕ z ⊗ (qS3 ⊕ z ⊗ qS4))))
 
 -- where x < -0.5
 unfoldable pub acos_below : Float → Float

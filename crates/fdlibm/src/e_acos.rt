@@ -38,8 +38,8 @@ const qS4: f64 = 7.70381505559019352791e-02;
 fn ratio(z: f64) -> f64
     ensures { result ≡ ratio_of z }
 {
-    let p = z * (p_s0 + z * (p_s1 + z * (p_s2 + z * (p_s3 + z * (p_s4 + z * p_s5)))));
-    let q = one + z * (q_s1 + z * (q_s2 + z * (q_s3 + z * q_s4)));
+    let p = z * (pS0 + z * (pS1 + z * (pS2 + z * (pS3 + z * (pS4 + z * pS5)))));
+    let q = one + z * (qS1 + z * (qS2 + z * (qS3 + z * qS4)));
     p / q
 }
 

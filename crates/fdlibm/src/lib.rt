@@ -1,5 +1,7 @@
 // fdlibm 5.3's log, log1p, acos, acosh and asinh, bit for bit: one module for each C file, with the
 // C's names for its constants and variables. Every public function answers at every double.
+#![tactic(auto)]
+
 mod e_acos;
 mod e_acosh;
 mod e_log;

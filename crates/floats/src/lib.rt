@@ -1,5 +1,7 @@
 // Rust's methods on f64 that the port calls, and the bit pattern and the two words of a double.
 // Every function answers at every double.
+#![tactic(auto)]
+
 ghost use Rattle.std.specs.Prelude.{◌≡◌};
 ghost use Rattle.std.specs.Float.{binary64};
 ghost use Rattle.std.specs.Float.Ieee.{is_nan, to_bits, of_bits};

@@ -5,7 +5,7 @@ ghost use Rattle.foliation.specs.Lattice.{vertex_count, is_lawful, vertex, coord
 use crate::Lattice;
 
 // The coordinates of a vertex, or of the cell that starts at it.
-#[derive(Drop)]
+#[derive(Clone, Copy)]
 pub struct Coords {
     pub t: usize,
     pub x: usize,

@@ -1,4 +1,6 @@
 // The periodic lattice of a foliation: its pentachorons.
+#![tactic(auto)]
+
 mod checks;
 mod coords;
 mod hypercubic;
@@ -12,14 +14,14 @@ pub use hypercubic::list;
 use refusals::Refusal;
 
 // A lattice of n_t time steps and n_s points along each axis of space, periodic along all four axes.
-#[derive(Drop)]
+#[derive(Clone, Copy)]
 pub struct Lattice {
     pub n_t: usize,
     pub n_s: usize,
 }
 
 // How many pentachorons a lattice has, or why it is refused.
-#[derive(Drop)]
+#[derive(Clone, Copy)]
 pub enum Listed {
     Done(usize),
     Refused(Refusal),

@@ -1,5 +1,7 @@
 // Determinants and cofactors (geometry.rs), and those of the Cayley-Menger matrix of ten squared
 // lengths, in the Rust's order of operations. A matrix is an array of rows.
+#![tactic(auto)]
+
 ghost use Rattle.std.specs.Prelude.{◌≡◌, ◌+◌, ◌<◌, ◌≤◌, get_or};
 ghost use Rattle.std.specs.Float.{nan};
 ghost use Rattle.floats.specs.Algebra.{doubles};
@@ -118,7 +120,7 @@ fn det_5x5(m: [[f64; 5]; 5]) -> f64
 // ---- cofactors
 
 // A cofactor, or why there is none.
-#[derive(Drop)]
+#[derive(Clone, Copy)]
 pub enum Cofactor {
     Done(f64),
     Refused(Refusal),

@@ -1,5 +1,7 @@
 // The table of hinges as a lent slice of records: working it out anew, and the retouch. Both are thin: checks, incidence, the
 // triangles to be written and their records come from the crates below; here records are stored.
+#![tactic(auto)]
+
 mod begin;
 
 ghost use Rattle.std.specs.Prelude.{◌≡◌, length, take};
@@ -183,7 +185,7 @@ pub fn retouch<'a>(
 }
 
 // What a call on a table by value answers: the outcome, and the table after the call.
-#[derive(Drop)]
+#[derive(Clone, Copy)]
 pub struct TableAnswer {
     pub outcome: Outcome,
     pub table: [Hinge; 640],

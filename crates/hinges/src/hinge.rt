@@ -7,14 +7,14 @@ use lorentzian::{Dihedral, HingeType};
 const PI: f64 = 3.141592653589793;
 
 // The deficit of a triangle, and its kind.
-#[derive(Drop)]
+#[derive(Clone, Copy)]
 pub struct Hinge {
     pub deficit: f64,
     pub kind: HingeType,
 }
 
 // What a byte of a list of kinds stands for. A lent list of kinds is read by `kind_in` and written by `byte` alone.
-#[derive(Drop)]
+#[derive(Clone, Copy)]
 pub enum KindByte {
     Kind(HingeType),
     NoKind,

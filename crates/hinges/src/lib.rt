@@ -1,6 +1,8 @@
 // What the Lorentzian Regge action is made of, by the numbers of triangles and pentachorons: the hinge of one triangle, areas, and
 // what a triangle adds to the gradient. Nothing is refused here: functions ask for what a built complex with as many lengths as edges
 // gives them (`Measured`, or a part of it). NaN and infinities are lawful lengths.
+#![tactic(auto)]
+
 mod area;
 mod contributions;
 mod dihedrals;

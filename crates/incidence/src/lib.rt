@@ -1,4 +1,6 @@
 // The faces that lie in each other, by their numbers. The lent lists are those of a complex, and `counts` says how far each is read.
+#![tactic(auto)]
+
 ghost use Rattle.std.specs.Prelude.{◌≡◌, true, [], ◌∷◌, ◌+◌, ◌*◌, ◌-◌, ◌≤◌, ◌<◌, length, get_or, take, drop};
 ghost use Rattle.lists.specs.Lists.{among, within};
 ghost use Rattle.complex.specs.Complex.{holding, row_numbers};
@@ -9,23 +11,23 @@ ghost use Rattle.incidence.specs.Incidence.{Tens, Simplices, Lie, edge_list, ind
 use complex::{Counts, edge_at};
 
 // The number of an edge.
-#[derive(Drop)]
+#[derive(Clone, Copy)]
 pub struct EdgeNumber(pub u32);
 
 // The number of a triangle.
-#[derive(Drop)]
+#[derive(Clone, Copy)]
 pub struct TriangleNumber(pub u32);
 
 // The number of a pentachoron.
-#[derive(Drop)]
+#[derive(Clone, Copy)]
 pub struct PentachoronNumber(pub u32);
 
 // The edges of a triangle with the vertices 0, 1, 2: 01, 02, 12.
-#[derive(Drop)]
+#[derive(Clone, Copy)]
 pub struct TriangleEdges(pub EdgeNumber, pub EdgeNumber, pub EdgeNumber);
 
 // The local indices of two vertices of a pentachoron.
-#[derive(Drop)]
+#[derive(Clone, Copy)]
 pub struct Opposite {
     pub l: usize,
     pub m: usize,

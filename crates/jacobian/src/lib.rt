@@ -1,4 +1,6 @@
 // The ten dihedrals of a pentachoron (lorentzian.rs), and their derivatives by the ten squared lengths, by central differences.
+#![tactic(auto)]
+
 mod dihedrals;
 
 ghost use Rattle.std.specs.Prelude.{◌≡◌, ◌<◌, set};

@@ -10,7 +10,7 @@ ghost use Rattle.lattice_edges.specs.Edges.{type_byte, edge_type_of, min_image, 
 use foliation::{Lattice, vertex_coords_4d};
 
 // How an edge lies in the foliation.
-#[derive(Drop)]
+#[derive(Clone, Copy)]
 pub enum EdgeType {
     // In one slice.
     Spatial,

@@ -1,4 +1,6 @@
 // The edges of a lattice's complex: their types, and their flat squared lengths.
+#![tactic(auto)]
+
 mod checks;
 mod edges;
 

@@ -1,10 +1,12 @@
 // How many squared lengths are timelike, null and spacelike.
+#![tactic(auto)]
+
 ghost use Rattle.std.specs.Prelude.{◌≡◌, ◌+◌, ◌^◌, ◌<◌};
 ghost use Rattle.length_signs.specs.LengthSigns.{signs_of};
 ghost use Rattle.length_signs.specs.Parts.{with_length};
 
 // Counts of lengths below zero, of either zero, and of all others, NaN among them.
-#[derive(Drop)]
+#[derive(Clone, Copy)]
 pub struct LengthSigns {
     pub timelike: usize,
     pub null: usize,

@@ -1,5 +1,7 @@
 // Rows of numbers in flat lists: searched by chains, numbered by first meeting, or met in a list as it is. Numbers grouped by
 // their places.
+#![tactic(auto)]
+
 mod groups;
 mod matching;
 mod numbering;

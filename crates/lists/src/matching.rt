@@ -6,7 +6,7 @@ ghost use Rattle.lists.specs.Chains.{Comparable, Compared};
 use crate::numbering::{chain_of, find_row, same_row};
 
 // What a comparison says: whether the list has the rows that are met, and how many of its rows are known then.
-#[derive(Drop)]
+#[derive(Clone, Copy)]
 pub struct Match {
     pub same: bool,
     pub rows: usize,

@@ -1,5 +1,7 @@
 // The calls of lorentzian_regge.rs at free edges alone, with their refusals: deficits, gradient and Hessian. A function that ends in
 // `_built` takes a built complex with its incidence lists and does not check it again. NaN and infinities are lawful lengths.
+#![tactic(auto)]
+
 mod local_deficits;
 mod local_gradient;
 mod local_hessian;

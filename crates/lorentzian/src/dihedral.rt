@@ -11,7 +11,7 @@ use root::root;
 // ---- the cases
 
 // Kind of a hinge.
-#[derive(Drop)]
+#[derive(Clone, Copy)]
 pub enum HingeType {
     // Its deficit is 2π less the sum of its angles.
     Spacelike,
@@ -32,7 +32,7 @@ impl HingeType {
 }
 
 // A dihedral with its one number. Only `kind` and `value` match on it.
-#[derive(Drop)]
+#[derive(Clone, Copy)]
 pub enum Dihedral {
     Angle(f64),
     Boost(f64),
@@ -132,7 +132,7 @@ pub fn dihedral_by_root(c_lm: f64, c_ll: f64, c_mm: f64) -> Dihedral
 }
 
 // A dihedral, or why there is none.
-#[derive(Drop)]
+#[derive(Clone, Copy)]
 pub enum DihedralAnswer {
     Done(Dihedral),
     Refused(Refusal),

@@ -1,6 +1,8 @@
 // Lorentzian geometry of a pentachoron (lorentzian.rs): areas of its triangles and its dihedrals by
 // both rules, from ten signed squared lengths in the order 01, 02, 03, 04, 12, 13, 14,
 // 23, 24, 34. No public function has a `requires`; NaN and infinities are lawful lengths.
+#![tactic(auto)]
+
 mod dihedral;
 mod triangle;
 

@@ -17,7 +17,7 @@ use one_pass::write_table;
 use refusals::{Outcome, Refusal};
 
 // An action, or why there is none.
-#[derive(Drop)]
+#[derive(Clone, Copy)]
 pub enum ActionAnswer {
     Done(f64),
     Refused(Refusal),

@@ -120,7 +120,7 @@ pub fn lorentzian_deficit_angles<'a>(
 // ---- one triangle
 
 // A hinge, or why there is none.
-#[derive(Drop)]
+#[derive(Clone, Copy)]
 pub enum HingeAnswer {
     Done(Hinge),
     Refused(Refusal),

@@ -1,5 +1,7 @@
 // The calls of lorentzian_regge.rs over a complex, with their refusals: deficits, the action, its gradient. A function that ends in
 // `_built` takes a built complex with its incidence lists and does not check it again. NaN and infinities are lawful lengths.
+#![tactic(auto)]
+
 mod action;
 mod deficits;
 mod gradient;

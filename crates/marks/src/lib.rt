@@ -1,4 +1,6 @@
 // Marks: a byte for each triangle or pentachoron, 1 where it is marked.
+#![tactic(auto)]
+
 ghost use Rattle.std.specs.Prelude.{◌≡◌, true, ◌≤◌, length};
 ghost use Rattle.lists.specs.Rows.{over};
 ghost use Rattle.lists.specs.Groups.{Below};

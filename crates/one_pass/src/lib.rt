@@ -1,4 +1,6 @@
 // The table of hinges in one pass over the pentachorons: sums and first kinds, then deficits and kinds, in the same two lists.
+#![tactic(auto)]
+
 ghost use Rattle.std.specs.Prelude.{◌≡◌, ◌++◌, map, ◌≤◌, ◌<◌, length, get_or, set, drop, replicate};
 ghost use Rattle.std.specs.Float.{nan};
 ghost use Rattle.floats.specs.Ops.{zero};

@@ -1,4 +1,6 @@
 // The program's input, bit-packed, most significant bit first, decoded to a built complex and its squared lengths.
+#![tactic(auto)]
+
 mod bits;
 mod fields;
 
@@ -15,7 +17,7 @@ use refusals::Outcome;
 
 // A decoded input: the counts of its complex or the refusal, the lists of the complex, and its squared lengths in the order of
 // the edges. The lists have room for 64 pentachorons; what is not written is zero.
-#[derive(Drop)]
+#[derive(Clone, Copy)]
 pub struct Decoded {
     pub answer: Built,
     pub pents: [u32; 320],

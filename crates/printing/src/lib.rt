@@ -1,4 +1,6 @@
 // Numbers and doubles as text, and lines of them on standard output. No contract can say what is written.
+#![tactic(auto)]
+
 ghost use Rattle.std.specs.Prelude.{◌≡◌, take};
 ghost use Rattle.io.specs.Counts.{IsPrefixLen};
 ghost use Rattle.printing.specs.Text.{text_of};
@@ -8,7 +10,7 @@ use libc::STDOUT_FILENO;
 // ---- text
 
 // The first `len` bytes are a text.
-#[derive(Drop)]
+#[derive(Clone, Copy)]
 pub struct Text {
     pub bytes: [u8; 16],
     pub len: usize,

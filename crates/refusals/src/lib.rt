@@ -1,9 +1,11 @@
 // The refusals of all layers, with the number and the place that the scope paper's table gives each.
 // Nothing else matches on the cases, so that a new one costs this crate alone.
+#![tactic(auto)]
+
 ghost use Rattle.std.specs.Prelude.{◌≡◌};
 ghost use Rattle.refusals.specs.Refusals.{number_of, place_of, outcome_number};
 
-#[derive(Drop)]
+#[derive(Clone, Copy)]
 pub enum Refusal {
     // The vertex count is 0 or above 4,096.
     VertexCount,
@@ -78,7 +80,7 @@ impl Refusal {
 }
 
 // What a call says that writes its answer to a lent buffer.
-#[derive(Drop)]
+#[derive(Clone, Copy)]
 pub enum Outcome {
     Done,
     Refused(Refusal),

@@ -1,5 +1,7 @@
 // What the replay programs share: numbers read from hexadecimal digits, lists filled with them or with a pattern, and what they
 // print alike.
+#![tactic(auto)]
+
 ghost use Rattle.std.specs.Prelude.{◌≡◌, cond, map, ◌+◌, ◌*◌, ◌<◌, ◌≤◌, ltb, length, take, drop};
 ghost use Rattle.lists.specs.Lists.{upto};
 ghost use Rattle.lists.specs.Rows.{over};

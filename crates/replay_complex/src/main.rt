@@ -4,6 +4,8 @@
 // the call. What was built is then checked, and checked again after each change, which stays: it prints 0 or the
 // refusal's number, and pent_edges and pent_tris after the check. Place i of a list that is lent to be written holds
 // 50000 + i before. oracle/complex made stdin and stdout from the Rust's answers and the table of refusals.
+#![tactic(auto)]
+
 ghost use Rattle.std.specs.Prelude.{◌<◌, ◌≤◌, length};
 ghost use Rattle.io.specs.Counts.{IsPrefixLen};
 

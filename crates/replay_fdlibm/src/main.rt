@@ -1,6 +1,8 @@
 // Replays stored inputs. For each line of 16 hexadecimal digits on standard input, the bit pattern of a
 // double, it prints the answers of the root and of fdlibm's functions: the input's bits, the function's
 // name, and the answer's bits, or nan. oracle/fdlibm made stdin and stdout from the C's answers.
+#![tactic(auto)]
+
 use libc::{STDIN_FILENO, STDOUT_FILENO};
 
 // What stands for the digits and the end of one line.

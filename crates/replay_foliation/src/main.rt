@@ -7,6 +7,8 @@
 // number and the output of `edge_types`, then those of `flat_minkowski_sq_lengths`. A list ends with its checksum; a long
 // one is that alone. Before a call place i of a list holds 50000 + i % 10000, of the types 100 + i % 100, and a length has
 // the list's number as its bits. oracle/foliation made stdin and stdout from the Rust's answers and the table of refusals.
+#![tactic(auto)]
+
 ghost use Rattle.std.specs.Prelude.{◌<◌, length};
 
 use complex::{Built, Counts};
@@ -270,7 +272,7 @@ fn print_edges(
 }
 
 // What a line `f` changes: a list, a place of it, and the number that is put there.
-#[derive(Drop)]
+#[derive(Clone, Copy)]
 struct Change {
     list: u64,
     place: usize,

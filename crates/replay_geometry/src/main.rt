@@ -2,6 +2,8 @@
 // cofactors, as bit patterns in hexadecimal. For a simplex it prints its cofactors, areas, dihedrals and
 // their Jacobian, for three cofactors their dihedral by the first rule: bits or nan, and S or T for a kind.
 // oracle/regge made stdin and stdout from the Rust's answers.
+#![tactic(auto)]
+
 ghost use Rattle.std.specs.Prelude.{◌+◌, ◌<◌, ◌≤◌, length};
 
 use libc::{STDIN_FILENO, STDOUT_FILENO};

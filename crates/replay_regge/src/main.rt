@@ -11,6 +11,8 @@
 // place i of an output has the bits 50000 + i, is 50000 + i, or no kind; a refused hinge is printed as T with the bits 50000,
 // a refused action as those, a refused count as 50000. oracle/hinges made stdin and stdout from the Rust's answers and the
 // table of refusals.
+#![tactic(auto)]
+
 ghost use Rattle.std.specs.Prelude.{◌+◌, ◌<◌, ◌≤◌, length};
 
 use complex::{Built, Counts};
@@ -648,7 +650,7 @@ fn print_calls<'a>(
 // ---- changes
 
 // What a line changes: a list, a place of it, and the number that is put there.
-#[derive(Drop)]
+#[derive(Clone, Copy)]
 struct Change {
     list: u64,
     place: usize,

@@ -9,6 +9,8 @@
 // nan, a kind its byte. A deficit that isn't worked out first has the bits 50000, a kind the byte 100; a record is then
 // Spacelike, and so it is where the byte that is put there is no kind. oracle/retouch made stdin and stdout from the Rust's
 // answers and the table of refusals.
+#![tactic(auto)]
+
 ghost use Rattle.std.specs.Prelude.{◌<◌, ◌≤◌, length};
 
 use complex::{Built, Counts};

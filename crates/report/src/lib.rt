@@ -1,5 +1,7 @@
 // What the program answers for its input: the counts of the complex or the refusal, the signs of the squared lengths, the hinges
 // and the gradient.
+#![tactic(auto)]
+
 ghost use Rattle.std.specs.Prelude.{◌≡◌, true, ◌≤◌, length};
 ghost use Rattle.lists.specs.Rows.{over};
 ghost use Rattle.length_signs.specs.LengthSigns.{signs_of};
@@ -16,7 +18,7 @@ use packed_input::decode;
 
 // The counts of the complex or the refusal; the counts of signs; for each triangle its deficit and the byte of its kind, for each
 // edge its gradient entry. What is not written is zero, and all is where the input is refused.
-#[derive(Drop)]
+#[derive(Clone, Copy)]
 pub struct Report {
     pub answer: Built,
     pub signs: LengthSigns,

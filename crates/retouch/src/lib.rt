@@ -1,5 +1,7 @@
 // The retouch: one squared length of a complex is changed, and the table of its hinges brought up to date. `retouch_built` takes a
 // built complex with its incidence lists and does not check it again. NaN and infinities are lawful lengths.
+#![tactic(auto)]
+
 mod records;
 mod touched;
 

@@ -1,5 +1,7 @@
 // The square root of a double, correctly rounded: a guess by floats that whole numbers certify, with
 // the root's digits one by one where they don't. A positive double is counted in units of 2^-1074.
+#![tactic(auto)]
+
 ghost use Rattle.std.specs.Prelude.{◌≡◌, ◌+◌, ◌*◌, ◌^◌, ◌<◌, ◌≤◌};
 ghost use Rattle.floats.specs.Units.{units_at};
 ghost use Rattle.root.specs.Root.{floor_root, root_bits, root_of};
@@ -67,7 +69,7 @@ fn guess(m: u64) -> u64
 }
 
 // What a number has above a square, or that it was not found: it is negative, or too large.
-#[derive(Drop)]
+#[derive(Clone, Copy)]
 enum Remainder {
     Found(u64),
     NotFound,

@@ -1,5 +1,7 @@
 // What one triangle and one pentachoron add to the matrix of second derivatives by the free edges. The matrix is lent as n rows of
 // n entries, one after the other; the place of an edge among the free ones is n where it is not free.
+#![tactic(auto)]
+
 ghost use Rattle.std.specs.Prelude.{◌≡◌, ◌*◌, ◌≤◌, ◌<◌, length, get_or};
 ghost use Rattle.std.specs.Float.{nan};
 ghost use Rattle.floats.specs.Ops.{◌⊕◌};

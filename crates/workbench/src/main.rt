@@ -1,5 +1,7 @@
 // The program: it reads a bit-packed complex with its squared lengths from standard input, and prints its counts, the signs of the
 // lengths, its hinges and its gradient, or why the input is refused. All that it prints is in the report.
+#![tactic(auto)]
+
 ghost use Rattle.std.specs.Prelude.{◌≤◌, length};
 
 use complex::{Built, Counts};
