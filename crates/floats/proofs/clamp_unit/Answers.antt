@@ -1,0 +1,15 @@
+-- `floats::clamp_unit` meets its contract. Assumes nothing.
+use Rattle.floats.specs.Methods.{clamp_unit_of}
+use Rattle.floats.proofs.clamp_unit.Goals as goal
+
+pub returns-then-x : goal.returns-then-x
+unfolding clamp_unit_of
+returns-then-x c = rw c.if-x.true
+
+pub returns-then-x-2 : goal.returns-then-x-2
+unfolding clamp_unit_of
+returns-then-x-2 c = rw (c.if-x.false, c.if-x-2.true)
+
+pub returns : goal.returns
+unfolding clamp_unit_of
+returns c = rw (c.if-x.false, c.if-x-2.false)

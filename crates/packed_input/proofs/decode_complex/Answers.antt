@@ -1,0 +1,52 @@
+-- `packed_input::decode_complex` meets its contract. Assumes nothing.
+use mathlib.Core.Path.{refl, sym, ap, ◌∙◌}
+use native.Mathlib.Omega.{arith}
+use Prim.Native.Nat.{ℕ, ◌*◌}
+use lib.ListN.{length}
+use Rattle.packed_input.proofs.Refusing.{header-says}
+use Rattle.packed_input.proofs.Complexes.{length-vertices, vertices-front, header-decides, builder-answers}
+use Rattle.packed_input.proofs.decode_complex.Goals as goal
+
+pub number-n_vertices-requires : goal.number-n_vertices-requires
+number-n_vertices-requires c =
+    let a = c.args in
+    let h = header-says a.input.now (sym c.check_header.ensures ∙ c.enum_told-1.given.1) in
+    (omega arith, omega arith, omega arith)
+
+pub number-n_pents-requires : goal.number-n_pents-requires
+number-n_pents-requires c =
+    let a = c.args in
+    let h = header-says a.input.now (sym c.check_header.ensures ∙ c.enum_told-1.given.1) in
+    (omega arith, omega arith, omega arith)
+
+pub read_vertices-requires : goal.read_vertices-requires
+read_vertices-requires c =
+    let a = c.args in
+    let h = header-says a.input.now (sym c.check_header.ensures ∙ c.enum_told-1.given.1) in
+    (omega arith, omega arith, omega arith)
+
+pub slice_bounds-given-end : goal.slice_bounds-given-end
+slice_bounds-given-end c =
+    let h = header-says c.args.input.now (sym c.check_header.ensures ∙ c.enum_told-1.given.1) in
+    omega (arith, c.read_vertices.auto.given)
+
+pub slice_bounds-from_pentachorons-end : goal.slice_bounds-from_pentachorons-end
+slice_bounds-from_pentachorons-end c =
+    let a = c.args in
+    let e = c.number-n_pents.ensures.0 in
+    sym (ap length (vertices-front a.input.now _ _ _ e c.read_vertices.ensures) ∙ length-vertices a.input.now _ ∙ ap (λ (P : ℕ). 5 * P) (sym e))
+
+pub returns-in-Refused : goal.returns-in-Refused
+returns-in-Refused c =
+    let e = header-decides c.args.input.now _ (sym c.check_header.ensures ∙ c.refusal-1.given.1) in
+    record {
+      value = rw e refl;
+      edge_to_pents_starts_after = rw e refl;
+    }
+
+pub returns-in-Done : goal.returns-in-Done
+returns-in-Done c =
+    let a = c.args in
+    let h = sym c.check_header.ensures ∙ c.enum_told-1.given.1 in
+    let g = vertices-front a.input.now _ _ _ c.number-n_pents.ensures.0 c.read_vertices.ensures in
+    builder-answers a.input.now _ _ _ _ _ h c.number-n_vertices.ensures.0 g c.requires c.from_pentachorons.ensures

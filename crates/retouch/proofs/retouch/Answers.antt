@@ -1,0 +1,40 @@
+-- `retouch::retouch` meets its contract. Assumes nothing.
+use mathlib.Core.Path.{refl, sym, ◌∙◌}
+use lib.ListN.{length}
+use borrow.Author.Tests.{not-true, not-false}
+use Rattle.complex.specs.Builder.{lists}
+use Rattle.comparison.proofs.Comparisons.{noted_of}
+use Rattle.calls.specs.Calls.{lengths_check_of, room_check_of, short_table}
+use Rattle.calls.proofs.BuiltCalls.{not-built, others-decide}
+use Rattle.retouch.specs.Retouch.{edge_check_of}
+use Rattle.retouch.proofs.retouch.Goals as goal
+
+pub returns-then-not-is_built_noting : goal.returns-then-not-is_built_noting
+returns-then-not-is_built_noting c =
+    let a = c.args in
+    record {
+      answered =
+          sym (not-built a.counts (lists a.pents.now a.edges.now a.triangles.now a.tets.now a.tri_to_pents_items.now a.tri_to_pents_starts.now a.edge_to_tris_items.now a.edge_to_tris_starts.now a.edge_to_pents_items.now a.edge_to_pents_starts.now) (lengths_check_of a.counts (length a.sq_lengths.now) (edge_check_of a.counts a.edge.0 (room_check_of (short_table a.counts (length a.deficits.now) (length a.kinds.now))))) (sym c.is_built_noting.ensures.value ∙ not-true c.is_built_noting.result c.if-not-is_built_noting.true));
+      lengths = refl;
+      deficits = refl;
+      kinds = refl;
+    }
+
+pub retouch_built-requires : goal.retouch_built-requires
+retouch_built-requires c =
+    let h = not-false c.is_built_noting.result c.if-not-is_built_noting.false in
+    record { built = sym c.is_built_noting.ensures.value ∙ h; noted = noted_of c.is_built_noting.ensures.noting h }
+
+pub returns : goal.returns
+returns c =
+    let a = c.args in
+    let h = not-false c.is_built_noting.result c.if-not-is_built_noting.false in
+    let t = c.retouch_built.ensures in
+    record {
+      answered =
+          t.answered
+          ∙ sym (others-decide a.counts (lists a.pents.now a.edges.now a.triangles.now a.tets.now a.tri_to_pents_items.now a.tri_to_pents_starts.now a.edge_to_tris_items.now a.edge_to_tris_starts.now a.edge_to_pents_items.now a.edge_to_pents_starts.now) (lengths_check_of a.counts (length a.sq_lengths.now) (edge_check_of a.counts a.edge.0 (room_check_of (short_table a.counts (length a.deficits.now) (length a.kinds.now))))) (sym c.is_built_noting.ensures.value ∙ h));
+      lengths = t.lengths;
+      deficits = t.deficits;
+      kinds = t.kinds;
+    }
