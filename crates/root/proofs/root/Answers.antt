@@ -10,6 +10,7 @@ use Rattle.floats.proofs.Patterns.{no-nan-below}
 use Rattle.floats.proofs.Units.{plain-below, pattern-value, value→count}
 use Rattle.root.specs.Root.{root_bits, root_of}
 use Rattle.root.proofs.root.Goals as goal
+use Rattle.root.proofs.root.Goals.{Start, Then-x-2}
 
 -- 0.0
 abbrev plus_zero : Float
@@ -121,10 +122,10 @@ pattern x h (kind m e) =
       number = tt;
     }
 
-held : (c : goal.Start) → T (fits binary64 c.args.x)
+held : (c : Start) → T (fits binary64 c.args.x)
 held c = subst T (sym c.well_formed.0.1) tt
 
-at-two : (c : goal.Then-x-2) → Pattern c.args.x
+at-two : (c : Then-x-2) → Pattern c.args.x
 unfolding of_bits div
 at-two c = pattern c.args.x (held c.before.before) (above c.args.x c.if-x.true c.if-x-2.true)
 
