@@ -4,6 +4,7 @@ use mathlib.Core.Path.{◌≡◌, refl, sym, ◌∙◌}
 use native.Mathlib.Nat.{mul-le-mul_left, mul-le-mul_right}
 use native.Mathlib.Omega.{arith}
 use lib.ListN.{length, take, drop}
+use borrow.Author.Tests.{not-true, not-false}
 use Rattle.complex.specs.Complex.{width_of, count_of, faces_of, met_faces}
 use Rattle.lists.specs.Lists.{gather}
 use Rattle.lists.specs.Rows.{rows}
@@ -122,7 +123,7 @@ returns-then-not-met c = let a = c.args in
     let many = length-met-rows f l.k a.pents.now (omega (arith, p.five)) in
     let below = face-below f l.k P (omega arith) in
     let told = rw c.rows_at-given.ensures.result_value at (rw count at (rw width at c.match_rows-met.ensures)) in
-    let off = c.if-not-met.true in record {
+    let off = not-true c.match_rows-met.result.same c.if-not-met.true in record {
       value = sym (has-others f a.pents.now a.n_faces a.list.now l.k P (omega arith) (rw (← l.invariant.5.known) (told.no off)));
       numbers_after = (
         λ t. absurd (not-both t refl),
@@ -142,7 +143,7 @@ loop-k-preserved c = let a = c.args in
     let many = length-met-rows f l.k a.pents.now (omega (arith, p.five)) in
     let below = face-below f l.k P (omega arith) in
     let told = rw c.rows_at-given.ensures.result_value at (rw count at (rw width at c.match_rows-met.ensures)) in
-    let on = told.yes c.if-not-met.false in (
+    let on = told.yes (not-false c.match_rows-met.result.same c.if-not-met.false) in (
       omega arith,
       c.match_rows-met.auto.next ∙ l.invariant.1,
       c.match_rows-met.auto.numbers ∙ l.invariant.2,
