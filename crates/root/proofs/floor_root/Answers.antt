@@ -81,8 +81,8 @@ loop-i-preserved c =
     let l = c.loop-i in
     let m = c.args.m in
     elim c.if-s-rem.branch [
-      then-s-rem w ↦ rw (w.s-is, w.rem-is) (taken m l.rest l.s l.rem l.i l.invariant c.loop-i-test.true w.if-s-rem.true)
-    | else-s-rem w ↦ rw (w.s-is, w.rem-is) (passed m l.rest l.s l.rem l.i l.invariant c.loop-i-test.true w.if-s-rem.false)
+      | then-s-rem w ↦ rw (w.s-is, w.rem-is) (taken m l.rest l.s l.rem l.i l.invariant (omega arith) w.if-s-rem.true)
+      | else-s-rem w ↦ rw (w.s-is, w.rem-is) (passed m l.rest l.s l.rem l.i l.invariant (omega arith) w.if-s-rem.false)
     ]
 
 pub returns : goal.returns

@@ -1,8 +1,6 @@
 -- `root::near_root` meets its contract. Assumes nothing.
-use Rattle.std.proofs.Common.{◌≡◌, ◌+◌, ◌-◌, ◌*◌, ◌^◌, ap, ◌∙◌, subst, le_of_eq, lt_of_le_of_lt, mul-lt-mul_of_pos_right, pow_pos}
+use Rattle.std.proofs.Common.{◌≡◌, ◌+◌, ◌-◌, ◌*◌, ◌^◌, ap, ◌∙◌, le_of_eq, lt_of_le_of_lt, mul-lt-mul_of_pos_right, pow_pos}
 use Rattle.root.specs.Root.{floor_root}
-use Rattle.root.specs.Remainder.{Remains}
-use Rattle.root.specs.declared.Remainder.{Remainder}
 use Rattle.root.proofs.near_root.Goals as goal
 
 -- a remainder that was found

@@ -37,8 +37,8 @@ aligned c =
     let a = c.args in
     let p = c.requires in
     elim c.if-exp-eq0.branch [
-      then-exp-eq0 w ↦ even a.sig a.exp c.if-exp-eq0.m p.bound p.sig_bound w.if-exp-eq0.true w.m-is
-    | else-exp-eq0 w ↦ odd a.sig a.exp c.if-exp-eq0.m p.bound p.sig_bound w.if-exp-eq0.false w.m-is
+      | then-exp-eq0 w ↦ even a.sig a.exp c.if-exp-eq0.m p.bound p.sig_bound w.if-exp-eq0.true w.m-is
+      | else-exp-eq0 w ↦ odd a.sig a.exp c.if-exp-eq0.m p.bound p.sig_bound w.if-exp-eq0.false w.m-is
     ]
 
 bits : (sig exp m s : ℕ) → Aligned sig exp m → s ≡ floor_root 54 (m * 2 ^ 54) → (exp / 2 + 485) * 2 ^ 52 + (s + 1) / 2 ≡ root_bits (sig * 2 ^ exp * 2 ^ 1022)
@@ -53,9 +53,9 @@ below-infinity exp s m h e = omega (arith, floor_root-lt 54 (m * 2 ^ 54))
 
 pub near_root-s-requires : goal.near_root-s-requires
 near_root-s-requires c = record {
-      bound = (aligned c).low;
-      m_bound = (aligned c).high;
-    }
+  bound = (aligned c).low;
+  m_bound = (aligned c).high;
+}
 
 pub overflow_add-result-2 : goal.overflow_add-result-2
 overflow_add-result-2 c = omega (arith, floor_root-lt 54 (c.if-exp-eq0.m * 2 ^ 54))

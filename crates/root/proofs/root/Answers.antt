@@ -46,6 +46,7 @@ above (fin false zero e) p q = absurd (lt_irrefl 0 (lt_of_lt_of_le {n = 0} (unde
   where
     under : {a b : ℕ} → a < b → 0 < b
     under h = omega arith
+
     le : (e : ℤ) → 0 * up e * 1 ≤ 0
     le e = omega (arith, no-units e)
 above (fin false (suc m) e) p q = kind m e
@@ -134,9 +135,9 @@ float_to_bits-x c = (at-two c).number
 
 pub root_bits-requires : goal.root_bits-requires
 root_bits-requires c = record {
-      b_nonzero = (at-two c).above_zero;
-      b_bound = (at-two c).finite;
-    }
+  b_nonzero = (at-two c).above_zero;
+  b_bound = (at-two c).finite;
+}
 
 pub float_from_bits-result : goal.float_from_bits-result
 float_from_bits-result c = no-nan-below c.root_bits.result c.root_bits.ensures.range

@@ -68,7 +68,7 @@ pub overflow_sub-c-then-e-eq0 : goal.overflow_sub-c-then-e-eq0
 overflow_sub-c-then-e-eq0 c = (led c).few
 
 pub packed-requires : goal.packed-requires
-packed-requires c = rw (led c).exact (record { bound = (led c).lo; sig_bound = (led c).hi; exp_bound = omega arith; })
+packed-requires c = rw (led c).exact (record { bound = (led c).lo; sig_bound = (led c).hi; exp_bound = omega arith })
 
 pub returns-then-e-eq0 : goal.returns-then-e-eq0
 returns-then-e-eq0 c =
