@@ -24,8 +24,8 @@ loop-t-preserved c =
     let l = c.loop-t in (
       omega arith,
       elim c.if-marks-t-eq1.branch [
-        then-marks-t-eq1 w ↦ omega (arith, w.count-is, l.invariant.1, ap length (marked-here M l.t (eq-eqb _ _ w.if-marks-t-eq1.true)), length-append (marked_below l.t M) (l.t ∷ []))
-      | else-marks-t-eq1 w ↦ w.count-is ∙ l.invariant.1 ∙ ap length (sym (marked-past M l.t (ne_eqb _ _ w.if-marks-t-eq1.false)))
+        | then-marks-t-eq1 w ↦ omega (arith, w.count-is, l.invariant.1, ap length (marked-here M l.t (eq-eqb _ _ w.if-marks-t-eq1.true)), length-append (marked_below l.t M) (l.t ∷ []))
+        | else-marks-t-eq1 w ↦ w.count-is ∙ l.invariant.1 ∙ ap length (sym (marked-past M l.t (ne_eqb _ _ w.if-marks-t-eq1.false)))
       ],
     )
 

@@ -32,17 +32,17 @@ loop-t-preserved c =
     let M = a.marks.now in
     let l = c.loop-t in
     elim c.if-marks-t-eq1.branch [
-      then-marks-t-eq1 w ↦
-        let here = marked-here M l.t (eq-eqb _ _ w.if-marks-t-eq1.true) in
-        let room = marked-room M l.t a.n c.loop-t-test.true (eq-eqb _ _ w.if-marks-t-eq1.true) in (
-          omega arith,
-          omega (arith, w.count-is, l.invariant.1, ap length here, length-append (marked_below l.t M) (l.t ∷ [])),
-          rw w.list-is (length-set l.list l.count l.t ∙ l.invariant.2),
-          rw (w.list-is, w.count-is, here) (front-turn (marked_below l.t M) l.t a.list.now l.list l.count (sym l.invariant.1) (omega (arith, room, l.invariant.1, c.requires.2)) l.invariant.2 l.invariant.3),
-        )
-    | else-marks-t-eq1 w ↦
-        let past = marked-past M l.t (ne_eqb _ _ w.if-marks-t-eq1.false) in
-        (omega arith, w.count-is ∙ l.invariant.1 ∙ ap length (sym past), rw w.list-is l.invariant.2, rw (w.list-is, w.count-is, past) l.invariant.3)
+      | then-marks-t-eq1 w ↦
+          let here = marked-here M l.t (eq-eqb _ _ w.if-marks-t-eq1.true) in
+          let room = marked-room M l.t a.n c.loop-t-test.true (eq-eqb _ _ w.if-marks-t-eq1.true) in (
+            omega arith,
+            omega (arith, w.count-is, l.invariant.1, ap length here, length-append (marked_below l.t M) (l.t ∷ [])),
+            rw w.list-is (length-set l.list l.count l.t ∙ l.invariant.2),
+            rw (w.list-is, w.count-is, here) (front-turn (marked_below l.t M) l.t a.list.now l.list l.count (sym l.invariant.1) (omega (arith, room, l.invariant.1, c.requires.2)) l.invariant.2 l.invariant.3),
+          )
+      | else-marks-t-eq1 w ↦
+          let past = marked-past M l.t (ne_eqb _ _ w.if-marks-t-eq1.false) in
+          (omega arith, w.count-is ∙ l.invariant.1 ∙ ap length (sym past), rw w.list-is l.invariant.2, rw (w.list-is, w.count-is, past) l.invariant.3)
     ]
 
 pub shape_of-list : goal.shape_of-list
