@@ -20,7 +20,7 @@ module _ {A : Type 0} where
   get_or-mem (x ∷ xs) zero d h = Memᴰ.head refl
   get_or-mem (x ∷ xs) (suc i) d h = Memᴰ.tail (get_or-mem xs i d (le_of_suc-le-suc h))
 
-  pub mem-get_or : (d : A) {xs : List A} {a : A} → Memᴰ a xs → (i : ℕ) × (i < length xs) × (get_or xs i d ≡ a)
+  pub mem-get_or : (d : A) {a : A} {xs : List A} → Memᴰ a xs → (i : ℕ) × (i < length xs) × (get_or xs i d ≡ a)
   mem-get_or d (Memᴰ.head {xs = xs} e) = (zero, zero-lt-suc (length xs), sym e)
   mem-get_or d {a = a} (Memᴰ.tail {xs = xs} m) =
       let r : (i : ℕ) × (i < length xs) × (get_or xs i d ≡ a) = mem-get_or d m in (suc r.0, suc-le-suc r.1, r.2)
@@ -61,7 +61,7 @@ module _ {A : Type 0} where
   module _ {B : Type 0} where
     -- ---- `gather` and `map`
 
-    pub gather-mem : (f : A → List B) {xs : List A} {a : A} {b : B} → Memᴰ a xs → Memᴰ b (f a) → Memᴰ b (gather f xs)
+    pub gather-mem : (f : A → List B) {a : A} {b : B} {xs : List A} → Memᴰ a xs → Memᴰ b (f a) → Memᴰ b (gather f xs)
     unfolding gather
     gather-mem f {a} {b} (Memᴰ.head {xs = xs} e) n = Memᴰ.append_left (gather f xs) (subst (λ (y : A). Memᴰ b (f y)) e n)
     gather-mem f (Memᴰ.tail {x} m) n = Memᴰ.append_right (f x) (gather-mem f m n)

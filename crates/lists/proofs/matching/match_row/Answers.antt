@@ -4,7 +4,6 @@ use mathlib.Core.Path.{◌≡◌, refl, sym, ◌∙◌}
 use native.Mathlib.Nat.{mul-le-mul_left}
 use native.Mathlib.Omega.{arith}
 use lib.ListN.{length}
-use borrow.Author.Tests.{not-true, not-false}
 use Rattle.lists.specs.Chains.{hash}
 use Rattle.lists.specs.Rows.{rows}
 use Rattle.lists.proofs.Chains.{hash-below}
@@ -47,7 +46,7 @@ same_row-requires c = let a = c.args in
 pub returns-then-not-same_row : goal.returns-then-not-same_row
 returns-then-not-same_row c = let a = c.args in
     let p = c.requires in
-    compared-other (length a.row.now) a.list.now a.head.now a.next.now a.numbers.now a.n a.most a.at c.find_row-k.result a.row.now p c.find_row-k.ensures c.if-k-n.false refl c.if-n-most.false (sym c.same_row.ensures ∙ not-true c.same_row.result c.if-not-same_row.true)
+    compared-other (length a.row.now) a.list.now a.head.now a.next.now a.numbers.now a.n a.most a.at c.find_row-k.result a.row.now p c.find_row-k.ensures c.if-k-n.false refl c.if-n-most.false (sym c.same_row.ensures ∙ c.if-not-same_row.true)
 
 pub offset_bounds-head-chain : goal.offset_bounds-head-chain
 offset_bounds-head-chain c = let a = c.args in
@@ -77,4 +76,4 @@ pub returns : goal.returns
 returns c = let a = c.args in
     let p = c.requires in
     let chain : c.chain_of-chain.result ≡ hash a.row.now = c.chain_of-chain.ensures in
-    rw chain (compared-new (length a.row.now) a.list.now a.head.now a.next.now a.numbers.now a.n a.most a.at c.find_row-k.result a.row.now p c.find_row-k.ensures c.if-k-n.false refl c.if-n-most.false (sym c.same_row.ensures ∙ not-false c.same_row.result c.if-not-same_row.false))
+    rw chain (compared-new (length a.row.now) a.list.now a.head.now a.next.now a.numbers.now a.n a.most a.at c.find_row-k.result a.row.now p c.find_row-k.ensures c.if-k-n.false refl c.if-n-most.false (sym c.same_row.ensures ∙ c.if-not-same_row.false))
