@@ -18,7 +18,7 @@ ROOT = Path(__file__).resolve().parent.parent
 sys.path.insert(0, str(ROOT / "tools"))
 import packed
 
-PROGRAM = ROOT / "target" / "bin" / "workbench"
+PROGRAM = ROOT / "crates" / "workbench" / "out" / "workbench"
 STDIN = ROOT / "crates" / "workbench" / "stdin"
 
 EXAMPLE_TEXT = ROOT / "tests" / "example.txt"
@@ -387,7 +387,7 @@ class ReggeScript(unittest.TestCase):
             shutil.copy(ROOT / name, self.root / name)
         self.put("crates/workbench/stdin", EXAMPLE)
         self.prints(EXAMPLE_LINES)
-        self.put("bin/rt", b'#!/bin/sh\necho "fn proved"\necho "rt: $*"\nmkdir -p target/bin\ncp program target/bin/workbench\n')
+        self.put("bin/rt", b'#!/bin/sh\necho "fn proved"\necho "rt: $*"\nmkdir -p out\ncp ../../program out/workbench\n')
 
     def put(self, name, content):
         """Writes a file of the folder, which can be run."""
@@ -408,18 +408,18 @@ class ReggeScript(unittest.TestCase):
 
     def test_example(self):
         done = self.regge()
-        self.assertEqual((done.returncode, done.stderr), (0, b"rt: check workbench\n"))
+        self.assertEqual((done.returncode, done.stderr), (0, b"rt: run\n"))
         self.assertEqual(done.stdout.decode(), regge.render(regge.read_output(EXAMPLE_LINES), packed.unpack(EXAMPLE)))
         self.assertEqual((self.root / "seen").read_bytes(), EXAMPLE)
 
     def test_built_anew_with_no_file_only(self):
-        self.put("target/bin/workbench", b"#!/bin/sh\necho refused 1 0\n")
+        self.put("crates/workbench/out/workbench", b"#!/bin/sh\necho refused 1 0\n")
         self.assertEqual(self.regge("--raw", "-").stdout, b"refused 1 0\n")
         self.assertEqual(self.regge("--raw").stdout, EXAMPLE_LINES)
 
     def test_built_where_missing(self):
         done = self.regge("-", data=EXAMPLE)
-        self.assertEqual((done.returncode, done.stderr), (0, b"rt: check workbench\n"))
+        self.assertEqual((done.returncode, done.stderr), (0, b"rt: run\n"))
 
     def test_file_and_text(self):
         self.assertEqual(self.regge(self.root / "crates/workbench/stdin").returncode, 0)
@@ -466,7 +466,7 @@ class ReggeScript(unittest.TestCase):
 
     def test_rt_that_fails(self):
         self.put("bin/rt", b"#!/bin/sh\nexit 5\n")
-        self.trouble(b"regge: 'rt check workbench' ended with status 5")
+        self.trouble(b"regge: 'rt run' ended with status 5")
 
     def test_rt_that_builds_nothing(self):
         self.put("bin/rt", b"#!/bin/sh\n")

@@ -1,6 +1,6 @@
 /*
  * The library's functions for C: floats, the geometry of one pentachoron, complexes, lattices, hinges, action, gradient, Hessian and
- * retouch. Link target/staticlib/libexports.a, which `rt staticlib exports` proves and builds for x86-64 Linux; it needs nothing but
+ * retouch. Link target/staticlib/libexports.a, which `bindings/build` proves and builds for x86-64 Linux; it needs nothing but
  * memcpy and memset.
  *
  * What a caller keeps
