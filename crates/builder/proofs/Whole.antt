@@ -16,7 +16,7 @@ use Rattle.complex.specs.declared.Counts.{Counts}
 use Rattle.complex.specs.declared.numbering.Face.{Face}
 use Rattle.complex.specs.declared.numbering.Face.TheVariants.{Edge, Triangle, Tet}
 use Rattle.complex.specs.declared.numbering.FaceCounts.{FaceCounts}
-use Rattle.complex.specs.Complex.{width_of, count_of, faces, edges, triangles, tets, tri_to_pents, edge_to_tris, edge_to_pents, numbers_of}
+use Rattle.complex.specs.Complex.{width_of, count_of, faces, edges, triangles, tri_to_pents, edge_to_tris, edge_to_pents, numbers_of}
 use Rattle.complex.specs.Builder.{pentachorons, sorted_pents, counts_of, Lists, lists, written, over_all}
 use Rattle.complex.specs.Parts.{Faces, AllFaces, Numbered, AllNumbered, EdgesOf, Lent, Adjacent, Buildable}
 use Rattle.complex.proofs.SortedPents.{sorted-wide-all, length-sorted-all, sorted_back}

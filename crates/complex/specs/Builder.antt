@@ -2,7 +2,6 @@
 use Rattle.std.specs.Prelude.{ℕ, ◌+◌, ◌*◌, ◌/◌, ◌%◌, ◌≡◌, Bool, false, not, cond, ◌||◌, List, [], ◌∷◌, map, eqb, ltb, leb, length}
 use Rattle.refusals.specs.declared.Refusal.TheVariants.{VertexCount, ListLength, ShortRoom, VertexTooLarge, RepeatedVertex}
 use Rattle.refusals.specs.declared.Outcome.{Outcome}
-use Rattle.refusals.specs.declared.Outcome.TheVariants as Outcome
 use Rattle.refusals.specs.Refusals.{number_of, place_of}
 use Rattle.lists.specs.Lists.{among}
 use Rattle.lists.specs.Rows.{flat, rows, starts, over}

@@ -2,7 +2,6 @@
 use Rattle.std.specs.Prelude.{ℕ, ◌+◌, ◌*◌, ◌≡◌, Bool, false, not, cond, ◌&&◌, ◌||◌, List, map, eqb, ltb, leb, length, take}
 use Rattle.refusals.specs.declared.Refusal.TheVariants.{NotBuilt, ShortRoom}
 use Rattle.refusals.specs.declared.Outcome.{Outcome}
-use Rattle.refusals.specs.declared.Outcome.TheVariants as Outcome
 use Rattle.lists.specs.Rows.{flat, rows, starts, over, begins}
 use Rattle.complex.specs.declared.Counts.{Counts}
 use Rattle.complex.specs.declared.Built.{Built}

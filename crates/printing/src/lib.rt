@@ -5,7 +5,7 @@ ghost use Rattle.std.specs.Prelude.{◌≡◌, take};
 ghost use Rattle.io.specs.Counts.{IsPrefixLen};
 ghost use Rattle.printing.specs.Text.{text_of};
 
-use libc::STDOUT_FILENO;
+use std::io::Result;
 
 // ---- text
 
@@ -35,43 +35,42 @@ pub fn double_text(x: f64) -> Text
 // ---- lines
 
 // A space and a number.
-pub fn print_number(n: u64) {
-    io::write_all(STDOUT_FILENO, b" ");
-    io::print_decimal(STDOUT_FILENO, n);
+pub fn print_number(rt: &impl Print, n: u64) -> Result<()> {
+    print!(rt; " {n}")
 }
 
 // A name and a number.
-pub fn print_named(name: &[u8], n: u64) {
-    io::write_all(STDOUT_FILENO, name);
-    print_number(n);
+pub fn print_named(rt: &impl Print, name: &[u8], n: u64) -> Result<()> {
+    rt.write_all(name)?;
+    print_number(rt, n)
 }
 
 // A space and a double: its bits or nan.
-pub fn print_double(x: f64) {
-    io::write_all(STDOUT_FILENO, b" ");
+pub fn print_double(rt: &impl Print, x: f64) -> Result<()> {
+    rt.write_all(b" ")?;
     let text = double_text(x);
     let bytes = text.bytes;
     let len = text.len;
-    io::write_all(STDOUT_FILENO, &bytes[..len]);
+    rt.write_all(&bytes[..len])
 }
 
 // The end of a line.
-pub fn print_end() {
-    io::write_all(STDOUT_FILENO, b"\n");
+pub fn print_end(rt: &impl Print) -> Result<()> {
+    rt.write_all(b"\n")
 }
 
 // The rest of a line: numbers.
-pub fn print_numbers(list: &[u32]) {
-    for i in 0..list.len() {
-        print_number(list[i] as u64);
+pub fn print_numbers(rt: &impl Print, list: &[u32]) -> Result<()> {
+    for n in list {
+        print_number(rt, u64::from(*n))?;
     }
-    print_end();
+    print_end(rt)
 }
 
 // The rest of a line: doubles.
-pub fn print_doubles(list: &[f64]) {
-    for i in 0..list.len() {
-        print_double(list[i]);
+pub fn print_doubles(rt: &impl Print, list: &[f64]) -> Result<()> {
+    for x in list {
+        print_double(rt, *x)?;
     }
-    print_end();
+    print_end(rt)
 }

@@ -1,5 +1,5 @@
 -- No two doubles are both nearest to a root. So `NearestRoot` says all of what `root_of` gives. Assumes nothing.
-use Rattle.std.proofs.Common.{◌≡◌, ℕ, ◌+◌, ◌-◌, ◌*◌, ◌^◌, ◌<◌, subst, add_comm, arith}
+use Rattle.std.proofs.Common.{◌≡◌, ℕ, ◌+◌, ◌*◌, ◌^◌, ◌<◌, subst, add_comm, arith}
 use lib.Ieee.{Float}
 use Rattle.floats.specs.Units.{count, Plain}
 use Rattle.floats.proofs.Units.{same_count}

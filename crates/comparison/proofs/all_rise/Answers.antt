@@ -4,7 +4,6 @@ use mathlib.Core.Path.{◌≡◌, refl, sym, ◌∙◌}
 use native.Mathlib.Nat.{sub-zero}
 use native.Mathlib.Omega.{arith}
 use lib.ListN.{length}
-use borrow.Author.Tests.{not-true, not-false}
 use Rattle.comparison.specs.CheckParts.{all_rise}
 use Rattle.lists.specs.Rows.{rows}
 use Rattle.comparison.proofs.Rises.{rise-turn}
@@ -19,12 +18,12 @@ rises_at-requires c = omega arith
 pub returns-then-not-rises_at : goal.returns-then-not-rises_at
 returns-then-not-rises_at c = let a = c.args in
     let l = c.loop-k in
-    sym (l.invariant.1 ∙ rise-turn a.n l.k (length a.pents.now / 5) a.pents.now (omega arith) ∙ rw (sym c.rises_at.ensures ∙ not-true c.rises_at.result c.if-not-rises_at.true) refl)
+    sym (l.invariant.1 ∙ rise-turn a.n l.k (length a.pents.now / 5) a.pents.now (omega arith) ∙ rw (sym c.rises_at.ensures ∙ c.if-not-rises_at.true) refl)
 
 pub loop-k-preserved : goal.loop-k-preserved
 loop-k-preserved c = let a = c.args in
     let l = c.loop-k in
-    (omega arith, l.invariant.1 ∙ rise-turn a.n l.k (length a.pents.now / 5) a.pents.now (omega arith) ∙ rw (sym c.rises_at.ensures ∙ not-false c.rises_at.result c.if-not-rises_at.false) refl)
+    (omega arith, l.invariant.1 ∙ rise-turn a.n l.k (length a.pents.now / 5) a.pents.now (omega arith) ∙ rw (sym c.rises_at.ensures ∙ c.if-not-rises_at.false) refl)
 
 pub returns : goal.returns
 unfolding all_rise rows

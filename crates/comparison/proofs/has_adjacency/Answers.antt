@@ -1,7 +1,6 @@
 -- `comparison::has_adjacency` meets its contract. Assumes nothing.
 use mathlib.Core.Path.{refl, sym, ◌∙◌}
 use native.Mathlib.Omega.{arith}
-use borrow.Author.Tests.{not-true, not-false}
 use Rattle.comparison.proofs.Comparisons.{triangle-room, tri-to-pents-asks, edge-to-tris-asks, edge-to-pents-asks, adjacency-is}
 use Rattle.comparison.proofs.has_adjacency.Goals as goal
 
@@ -11,7 +10,7 @@ is_holding-requires c = let a = c.args in
 
 pub returns-then-not-is_holding : goal.returns-then-not-is_holding
 returns-then-not-is_holding c = let a = c.args in
-    sym (adjacency-is a.counts a.pents.now a.edges.now a.triangles.now c.requires a.tri_to_pents_items.now a.tri_to_pents_starts.now a.edge_to_tris_items.now a.edge_to_tris_starts.now a.edge_to_pents_items.now a.edge_to_pents_starts.now ∙ rw (sym c.is_holding.ensures ∙ not-true c.is_holding.result c.if-not-is_holding.true) refl)
+    sym (adjacency-is a.counts a.pents.now a.edges.now a.triangles.now c.requires a.tri_to_pents_items.now a.tri_to_pents_starts.now a.edge_to_tris_items.now a.edge_to_tris_starts.now a.edge_to_pents_items.now a.edge_to_pents_starts.now ∙ rw (sym c.is_holding.ensures ∙ c.if-not-is_holding.true) refl)
 
 pub overflow_mul-counts : goal.overflow_mul-counts
 overflow_mul-counts c = let a = c.args in
@@ -23,7 +22,7 @@ is_holding-requires-2 c = let a = c.args in
 
 pub returns-then-not-is_holding-2 : goal.returns-then-not-is_holding-2
 returns-then-not-is_holding-2 c = let a = c.args in
-    sym (adjacency-is a.counts a.pents.now a.edges.now a.triangles.now c.requires a.tri_to_pents_items.now a.tri_to_pents_starts.now a.edge_to_tris_items.now a.edge_to_tris_starts.now a.edge_to_pents_items.now a.edge_to_pents_starts.now ∙ rw (sym c.is_holding.ensures ∙ not-false c.is_holding.result c.if-not-is_holding.false, sym c.is_holding-2.ensures ∙ not-true c.is_holding-2.result c.if-not-is_holding-2.true) refl)
+    sym (adjacency-is a.counts a.pents.now a.edges.now a.triangles.now c.requires a.tri_to_pents_items.now a.tri_to_pents_starts.now a.edge_to_tris_items.now a.edge_to_tris_starts.now a.edge_to_pents_items.now a.edge_to_pents_starts.now ∙ rw (sym c.is_holding.ensures ∙ c.if-not-is_holding.false, sym c.is_holding-2.ensures ∙ c.if-not-is_holding-2.true) refl)
 
 pub is_holding-requires-3 : goal.is_holding-requires-3
 is_holding-requires-3 c = let a = c.args in
@@ -31,4 +30,4 @@ is_holding-requires-3 c = let a = c.args in
 
 pub returns : goal.returns
 returns c = let a = c.args in
-    c.is_holding-3.ensures ∙ sym (adjacency-is a.counts a.pents.now a.edges.now a.triangles.now c.requires a.tri_to_pents_items.now a.tri_to_pents_starts.now a.edge_to_tris_items.now a.edge_to_tris_starts.now a.edge_to_pents_items.now a.edge_to_pents_starts.now ∙ rw (sym c.is_holding.ensures ∙ not-false c.is_holding.result c.if-not-is_holding.false, sym c.is_holding-2.ensures ∙ not-false c.is_holding-2.result c.if-not-is_holding-2.false) refl)
+    c.is_holding-3.ensures ∙ sym (adjacency-is a.counts a.pents.now a.edges.now a.triangles.now c.requires a.tri_to_pents_items.now a.tri_to_pents_starts.now a.edge_to_tris_items.now a.edge_to_tris_starts.now a.edge_to_pents_items.now a.edge_to_pents_starts.now ∙ rw (sym c.is_holding.ensures ∙ c.if-not-is_holding.false, sym c.is_holding-2.ensures ∙ c.if-not-is_holding-2.false) refl)

@@ -1,5 +1,4 @@
 -- `incidence::local_index` meets its contract. Assumes nothing.
-use Prim.Native.Nat.{◌-◌}
 use native.Mathlib.Omega.{arith}
 use Rattle.lists.proofs.Tests.{said}
 use Rattle.lists.proofs.Elements.{mem-get_or, among-says}

@@ -1,5 +1,5 @@
 -- `root::above_square` meets its contract: with s = hi * 2 ^ 27 + lo the parts of its square are hi * hi, 2 * hi * lo and lo * lo. Assumes nothing.
-use Rattle.std.proofs.Common.{◌≡◌, ℕ, ◌+◌, ◌-◌, ◌*◌, ◌/◌, ◌%◌, ◌^◌, ◌<◌, ◌≤◌, ap, ◌∙◌, mul-le-mul, mul_right_comm, arith, leb-false}
+use Rattle.std.proofs.Common.{◌≡◌, ℕ, ◌+◌, ◌-◌, ◌*◌, ◌/◌, ◌%◌, ◌^◌, ◌<◌, ◌≤◌, ap, ◌∙◌, mul-le-mul, mul_right_comm, arith}
 use native.Mathlib.Nat.{mul-mul-mul_comm}
 use Rattle.root.proofs.Floor.{square-sum}
 use Rattle.root.proofs.above_square.Goals as goal
@@ -46,7 +46,7 @@ overflow_mul-hh c = let s = c.args.s in omega (arith, product (s / 2 ^ 27) (s / 
 pub overflow_mul-d : goal.overflow_mul-d
 overflow_mul-d c =
     let a = c.args in
-    let h : a.m - a.s / 2 ^ 27 * (a.s / 2 ^ 27) < 2 ^ 36 = leb-false _ _ c.if-m-hh-ge-TWO36.false in
+    let h : a.m - a.s / 2 ^ 27 * (a.s / 2 ^ 27) < 2 ^ 36 = c.if-m-hh-ge-TWO36.false in
     omega arith
 
 pub overflow_mul-hl : goal.overflow_mul-hl
@@ -58,7 +58,7 @@ overflow_mul-hl-2 c = omega (arith, middle c)
 pub overflow_mul-e : goal.overflow_mul-e
 overflow_mul-e c =
     let a = c.args in
-    let h : (a.m - a.s / 2 ^ 27 * (a.s / 2 ^ 27)) * 2 ^ 27 - a.s / 2 ^ 27 * (a.s % 2 ^ 27) * 2 < 2 ^ 36 = leb-false _ _ c.if-d-hl-ge-TWO36.false in
+    let h : (a.m - a.s / 2 ^ 27 * (a.s / 2 ^ 27)) * 2 ^ 27 - a.s / 2 ^ 27 * (a.s % 2 ^ 27) * 2 < 2 ^ 36 = c.if-d-hl-ge-TWO36.false in
     omega arith
 
 pub overflow_mul-ll : goal.overflow_mul-ll

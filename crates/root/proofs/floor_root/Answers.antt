@@ -1,10 +1,11 @@
 -- `root::floor_root` meets its contract. After i turns s is the whole part of the root of the i leading digits to base 4 of m * 2 ^ 54,
 -- rem is what those digits have above s * s, and rest holds the digits that are left, at the top of 54 places. Assumes nothing.
-use Rattle.std.proofs.Common.{◌≡◌, ℕ, ◌+◌, ◌-◌, ◌*◌, ◌/◌, ◌%◌, ◌^◌, ◌<◌, ◌≤◌, sym, ap, ◌∙◌, ⊎_elim, mul_assoc, mul_comm, mul-lt-mul_of_pos_right, mul_left_comm, arith, pow_pos, pow_mono, pow-add}
+use Rattle.std.proofs.Common.{◌≡◌, ℕ, ◌+◌, ◌-◌, ◌*◌, ◌/◌, ◌%◌, ◌^◌, ◌<◌, ◌≤◌, sym, ap, ◌∙◌, mul_assoc, mul_comm, mul-lt-mul_of_pos_right, mul_left_comm, arith, pow_pos, pow_mono, pow-add}
 use Rattle.root.specs.Root.{floor_root}
 use Rattle.root.proofs.Floor.{square-double, square-next, floor-above, floor_root-is}
 use Rattle.root.proofs.floor_root.Invariants.{Digits}
 use Rattle.root.proofs.floor_root.Goals as goal
+use Rattle.root.proofs.floor_root.Goals.{then-s-rem, else-s-rem}
 
 four-more : (m i : ℕ) → m * 4 ^ (i + 1) ≡ 4 * (m * 4 ^ i)
 four-more m i = ap (λ (x : ℕ). m * x) (pow-add 4 i 1 ∙ mul_comm (4 ^ i) 4) ∙ mul_left_comm m 4 (4 ^ i)
@@ -79,9 +80,10 @@ pub loop-i-preserved : goal.loop-i-preserved
 loop-i-preserved c =
     let l = c.loop-i in
     let m = c.args.m in
-    ⊎_elim (λ w. rw (w.1, w.2) (taken m l.rest l.s l.rem l.i l.invariant c.loop-i-test.true w.0.taken))
-    (λ w. rw (w.1, w.2) (passed m l.rest l.s l.rem l.i l.invariant c.loop-i-test.true w.0.left))
-    c.if-s-rem.branch
+    elim c.if-s-rem.branch [
+      | then-s-rem w ↦ rw (w.s-is, w.rem-is) (taken m l.rest l.s l.rem l.i l.invariant (omega arith) w.if-s-rem.true)
+      | else-s-rem w ↦ rw (w.s-is, w.rem-is) (passed m l.rest l.s l.rem l.i l.invariant (omega arith) w.if-s-rem.false)
+    ]
 
 pub returns : goal.returns
 returns c =

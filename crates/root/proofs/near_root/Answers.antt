@@ -1,15 +1,13 @@
 -- `root::near_root` meets its contract. Assumes nothing.
-use Rattle.std.proofs.Common.{◌≡◌, ◌+◌, ◌-◌, ◌*◌, ◌^◌, ap, ◌∙◌, subst, le_of_eq, lt_of_le_of_lt, mul-lt-mul_of_pos_right, pow_pos}
+use Rattle.std.proofs.Common.{◌≡◌, ◌+◌, ◌-◌, ◌*◌, ◌^◌, ap, ◌∙◌, le_of_eq, lt_of_le_of_lt, mul-lt-mul_of_pos_right, pow_pos}
 use Rattle.root.specs.Root.{floor_root}
-use Rattle.root.specs.Remainder.{Remains}
-use Rattle.root.specs.declared.Remainder.{Remainder}
 use Rattle.root.proofs.near_root.Goals as goal
 
 -- a remainder that was found
 held : (c : goal.In-Found)
-    → (c.guess-s.result - 4) * (c.guess-s.result - 4) + c.above-1.given.0.0
+    → (c.guess-s.result - 4) * (c.guess-s.result - 4) + c.in-Found.above
     ≡ c.args.m * 2 ^ 54
-held c = subst (λ (r : Remainder). Remains c.args.m (c.guess-s.result - 4) r) c.above-1.given.1 c.above_square.ensures
+held c = c.in-Found.ensures
 
 pub step_up-requires : goal.step_up-requires
 step_up-requires c = lt_of_le_of_lt (le_of_eq (held c)) (mul-lt-mul_of_pos_right c.requires.m_bound (pow_pos 54))

@@ -1,9 +1,10 @@
 -- `root::packed` meets its contract: m takes up the odd factor of two, so that an even power of two is left. Assumes nothing.
-use Rattle.std.proofs.Common.{◌≡◌, ℕ, ◌+◌, ◌*◌, ◌/◌, ◌%◌, ◌^◌, ◌<◌, ◌≤◌, sym, ap, ◌∙◌, ⊎_elim, mul-le-mul_right, mul_assoc, mul-lt-mul_of_pos_right, arith, pow_pos}
+use Rattle.std.proofs.Common.{◌≡◌, ℕ, ◌+◌, ◌*◌, ◌/◌, ◌%◌, ◌^◌, ◌<◌, ◌≤◌, sym, ap, ◌∙◌, mul-le-mul_right, mul_assoc, mul-lt-mul_of_pos_right, arith, pow_pos}
 use Rattle.floats.proofs.Units.{shifted}
 use Rattle.root.specs.Root.{floor_root, root_bits}
 use Rattle.root.proofs.Floor.{four-pow, root_bits-at, floor_root-lt}
 use Rattle.root.proofs.packed.Goals as goal
+use Rattle.root.proofs.packed.Goals.{Joined-exp-eq0, then-exp-eq0, else-exp-eq0}
 
 -- m * 2 ^ 54 is sig * 2 ^ exp * 2 ^ 1022 but for a power of 4
 record Aligned (sig exp m : ℕ) : Type 0 where
@@ -31,11 +32,14 @@ odd sig exp m l h p e = record {
       ∙ scale sig exp 55 (exp / 2 + 484) (omega arith);
 }
 
-aligned : (c : goal.Joined-exp-eq0) → Aligned c.args.sig c.args.exp c.if-exp-eq0.m
+aligned : (c : Joined-exp-eq0) → Aligned c.args.sig c.args.exp c.if-exp-eq0.m
 aligned c =
     let a = c.args in
     let p = c.requires in
-    ⊎_elim (λ w. even a.sig a.exp c.if-exp-eq0.m p.bound p.sig_bound.0 w.0.taken w.1) (λ w. odd a.sig a.exp c.if-exp-eq0.m p.bound p.sig_bound.0 w.0.left w.1) c.if-exp-eq0.branch
+    elim c.if-exp-eq0.branch [
+      | then-exp-eq0 w ↦ even a.sig a.exp c.if-exp-eq0.m p.bound p.sig_bound w.if-exp-eq0.true w.m-is
+      | else-exp-eq0 w ↦ odd a.sig a.exp c.if-exp-eq0.m p.bound p.sig_bound w.if-exp-eq0.false w.m-is
+    ]
 
 bits : (sig exp m s : ℕ) → Aligned sig exp m → s ≡ floor_root 54 (m * 2 ^ 54) → (exp / 2 + 485) * 2 ^ 52 + (s + 1) / 2 ≡ root_bits (sig * 2 ^ exp * 2 ^ 1022)
 bits sig exp m s a e =
@@ -49,9 +53,9 @@ below-infinity exp s m h e = omega (arith, floor_root-lt 54 (m * 2 ^ 54))
 
 pub near_root-s-requires : goal.near_root-s-requires
 near_root-s-requires c = record {
-      bound = (aligned c).low;
-      m_bound = (aligned c).high;
-    }
+  bound = (aligned c).low;
+  m_bound = (aligned c).high;
+}
 
 pub overflow_add-result-2 : goal.overflow_add-result-2
 overflow_add-result-2 c = omega (arith, floor_root-lt 54 (c.if-exp-eq0.m * 2 ^ 54))
@@ -63,5 +67,5 @@ returns c =
     let s = c.near_root-s.result in
     record {
       value = bits a.sig a.exp m s (aligned c.before) c.near_root-s.ensures;
-      range = below-infinity a.exp s m c.requires.sig_bound.1 c.near_root-s.ensures;
+      range = below-infinity a.exp s m c.requires.exp_bound c.near_root-s.ensures;
     }

@@ -10,6 +10,7 @@ use Rattle.floats.proofs.Patterns.{no-nan-below}
 use Rattle.floats.proofs.Units.{plain-below, pattern-value, value→count}
 use Rattle.root.specs.Root.{root_bits, root_of}
 use Rattle.root.proofs.root.Goals as goal
+use Rattle.root.proofs.root.Goals.{Start, Then-x-2}
 
 -- 0.0
 abbrev plus_zero : Float
@@ -45,6 +46,7 @@ above (fin false zero e) p q = absurd (lt_irrefl 0 (lt_of_lt_of_le {n = 0} (unde
   where
     under : {a b : ℕ} → a < b → 0 < b
     under h = omega arith
+
     le : (e : ℤ) → 0 * up e * 1 ≤ 0
     le e = omega (arith, no-units e)
 above (fin false (suc m) e) p q = kind m e
@@ -121,10 +123,10 @@ pattern x h (kind m e) =
       number = tt;
     }
 
-held : (c : goal.Start) → T (fits binary64 c.args.x)
+held : (c : Start) → T (fits binary64 c.args.x)
 held c = subst T (sym c.well_formed.0.1) tt
 
-at-two : (c : goal.Then-x-2) → Pattern c.args.x
+at-two : (c : Then-x-2) → Pattern c.args.x
 unfolding of_bits div
 at-two c = pattern c.args.x (held c.before.before) (above c.args.x c.if-x.true c.if-x-2.true)
 
@@ -133,9 +135,9 @@ float_to_bits-x c = (at-two c).number
 
 pub root_bits-requires : goal.root_bits-requires
 root_bits-requires c = record {
-      b_nonzero = (at-two c).above_zero;
-      b_bound = (at-two c).finite;
-    }
+  b_nonzero = (at-two c).above_zero;
+  b_bound = (at-two c).finite;
+}
 
 pub float_from_bits-result : goal.float_from_bits-result
 float_from_bits-result c = no-nan-below c.root_bits.result c.root_bits.ensures.range

@@ -68,7 +68,7 @@ pub overflow_sub-c-then-e-eq0 : goal.overflow_sub-c-then-e-eq0
 overflow_sub-c-then-e-eq0 c = (led c).few
 
 pub packed-requires : goal.packed-requires
-packed-requires c = rw (led c).exact ((led c).lo, ((led c).hi, omega arith))
+packed-requires c = rw (led c).exact (record { bound = (led c).lo; sig_bound = (led c).hi; exp_bound = omega arith })
 
 pub returns-then-e-eq0 : goal.returns-then-e-eq0
 returns-then-e-eq0 c =
@@ -84,11 +84,11 @@ returns-then-e-eq0 c =
 pub returns : goal.returns
 returns c =
     let b = c.args.b in
-    let e = b / 2 ^ 52 in (
-      c.packed-2.ensures.value
-          ∙ ap root_bits (high-scale (b % 2 ^ 52 + 2 ^ 52) e (pos e c.if-e-eq0.false) ∙ ap (λ (x : ℕ). x * 2 ^ 1074) (sym (units-high b (large b c.if-e-eq0.false)))),
-      c.packed-2.ensures.range,
-    )
+    let e = b / 2 ^ 52 in record {
+      value = c.packed-2.ensures.value
+          ∙ ap root_bits (high-scale (b % 2 ^ 52 + 2 ^ 52) e (pos e c.if-e-eq0.false) ∙ ap (λ (x : ℕ). x * 2 ^ 1074) (sym (units-high b (large b c.if-e-eq0.false))));
+      range = c.packed-2.ensures.range;
+    }
   where
     pos : (e : ℕ) → (e ≡ 0 → ⊥) → 1 ≤ e
     pos e h = omega arith

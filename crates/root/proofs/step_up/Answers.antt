@@ -31,7 +31,7 @@ pub overflow_add-s : goal.overflow_add-s
 overflow_add-s c = omega (arith, at-loop c.before)
 
 pub loop-s-preserved : goal.loop-s-preserved
-loop-s-preserved c = let l = c.loop-s in again _ l.s l.rem l.invariant c.loop-s-test.true
+loop-s-preserved c = let l = c.loop-s in again _ l.s l.rem l.invariant (omega arith)
 
 pub returns : goal.returns
 returns c = let l = c.loop-s in last _ l.s l.rem c.requires l.invariant c.loop-s-test.false

@@ -1,5 +1,5 @@
 -- `root::step_up` meets its contract. rem is what the number has above the square of s, and falls at each step. Assumes nothing.
-use Rattle.std.proofs.Common.{◌≡◌, ◌+◌, ◌-◌, ◌*◌}
+use Rattle.std.proofs.Common.{◌≡◌, ◌+◌, ◌*◌}
 use Rattle.root.proofs.step_up.Given as goal
 
 abbrev pub invariant-loop-s : goal.invariant-loop-s

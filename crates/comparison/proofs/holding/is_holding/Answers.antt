@@ -4,7 +4,6 @@ use mathlib.Core.Path.{◌≡◌, sym, ◌∙◌}
 use mathlib.Core.Bool.{true, true≢false}
 use native.Mathlib.Omega.{arith}
 use lib.ListN.{get_or}
-use borrow.Author.Tests.{not-true, not-false}
 use Rattle.lists.specs.Rows.{rows}
 use Rattle.lists.proofs.Tests.{fails, says_same, eqb-says, below_next}
 use Rattle.lists.proofs.Rows.{row_below, row_part}
@@ -55,7 +54,7 @@ returns-then-not-part_lies c =
     let a = c.args in
     let says = holds-says c.requires a.items.now a.starts.now in
     let f = c.part_lies in
-    sym (fails says (λ p. true≢false (sym (p.parts c.loop-j.j (omega arith)) ∙ sym f.ensures ∙ not-true f.result c.if-not-part_lies.true)))
+    sym (fails says (λ p. true≢false (sym (p.parts c.loop-j.j (omega arith)) ∙ sym f.ensures ∙ c.if-not-part_lies.true)))
 
 pub loop-j-preserved : goal.loop-j-preserved
 loop-j-preserved c =
@@ -64,7 +63,7 @@ loop-j-preserved c =
     let f = c.part_lies in (
       omega arith,
       below_next (λ i. part_lies (rows a.shape.width a.shape.count a.list.now) (row_part a.key_shape.width a.keys.now i) a.items.now a.starts.now i ≡ true)
-          l.j l.invariant.1 (sym f.ensures ∙ not-false f.result c.if-not-part_lies.false),
+          l.j l.invariant.1 (sym f.ensures ∙ c.if-not-part_lies.false),
     )
 
 pub overflow_cast-result : goal.overflow_cast-result

@@ -3,7 +3,7 @@ use Prim.Native.Nat.{◌-◌}
 use mathlib.Core.Path.{refl, sym, ◌∙◌}
 use native.Mathlib.Omega.{arith}
 use lib.ListN.{get_or, drop_of_length-le}
-use borrow.Author.Tests.{not-true, not-false, lt-leb, le-leb, le-ltb}
+use borrow.Author.Tests.{lt-leb, le-leb, le-ltb}
 use Rattle.lists.specs.Rows.{rows}
 use Rattle.lists.proofs.Rows.{length-rows, row_below}
 use Rattle.comparison.specs.CheckParts.{lying}
@@ -54,7 +54,7 @@ returns-then-not-lies_in c =
     let l = c.loop-i in
     let f = c.lies_in in
     let turn = lying-row a.shape.width a.shape.count a.list.now a.key.now l.low a.items.now l.i (omega arith) (omega arith) (omega arith) in
-    sym (l.invariant.1 ∙ turn ∙ rw (sym f.ensures ∙ not-true f.result c.if-not-lies_in.true) refl)
+    sym (l.invariant.1 ∙ turn ∙ rw (sym f.ensures ∙ c.if-not-lies_in.true) refl)
 
 pub overflow_add-low : goal.overflow_add-low
 overflow_add-low c = omega (arith, c.type_inv.items c.loop-i.i)
@@ -65,7 +65,7 @@ loop-i-preserved c =
     let l = c.loop-i in
     let f = c.lies_in in
     let turn = lying-row a.shape.width a.shape.count a.list.now a.key.now l.low a.items.now l.i (omega arith) (omega arith) (omega arith) in
-    (omega arith, l.invariant.1 ∙ turn ∙ rw (sym f.ensures ∙ not-false f.result c.if-not-lies_in.false) refl)
+    (omega arith, l.invariant.1 ∙ turn ∙ rw (sym f.ensures ∙ c.if-not-lies_in.false) refl)
 
 pub returns : goal.returns
 unfolding lying

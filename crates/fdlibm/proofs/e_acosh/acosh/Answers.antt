@@ -4,14 +4,15 @@ use Rattle.floats.specs.Words.{high_word, low_word}
 use Rattle.fdlibm.specs.Ints.{◌<ˢ◌, ◌≤ˢ◌, words_are}
 use Rattle.fdlibm.specs.Acosh.{acosh_of}
 use Rattle.fdlibm.proofs.e_acosh.acosh.Goals as goal
+use Rattle.fdlibm.proofs.e_acosh.acosh.Goals.{Else-int_lt, Else-int_le, Else-words_are}
 
-at_least_one : (c : goal.Else-int_lt) → (high_word c.args.x <ˢ 0x3ff0_0000) ≡ false
+at_least_one : (c : Else-int_lt) → (high_word c.args.x <ˢ 0x3ff0_0000) ≡ false
 at_least_one c = search (c.if-int_lt.false, ← c.int_lt.ensures, ← c.high_word-hx.ensures)
 
-not-large : (c : goal.Else-int_le) → (0x41b0_0000 ≤ˢ high_word c.args.x) ≡ false
+not-large : (c : Else-int_le) → (0x41b0_0000 ≤ˢ high_word c.args.x) ≡ false
 not-large c = search (c.if-int_le.false, ← c.int_le.ensures, ← c.high_word-hx.ensures)
 
-not-one : (c : goal.Else-words_are) → words_are (high_word c.args.x) (low_word c.args.x) 0x3ff0_0000 ≡ false
+not-one : (c : Else-words_are) → words_are (high_word c.args.x) (low_word c.args.x) 0x3ff0_0000 ≡ false
 not-one c = search (c.if-words_are.false, ← c.words_are.ensures, ← c.low_word.ensures, ← c.high_word-hx.ensures)
 
 pub returns-then-int_lt : goal.returns-then-int_lt

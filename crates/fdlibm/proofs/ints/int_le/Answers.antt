@@ -4,4 +4,4 @@ use Rattle.fdlibm.proofs.ints.int_le.Goals as goal
 
 pub returns : goal.returns
 unfolding ◌≤ˢ◌
-returns c = rw (c.wrapping_add_u32.ensures, c.wrapping_add_u32-2.ensures)
+returns c = rw (c.wrapping_add_u32.ensures.value, c.wrapping_add_u32-2.ensures.value)

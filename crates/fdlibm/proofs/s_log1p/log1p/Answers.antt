@@ -1,5 +1,5 @@
 -- `fdlibm::s_log1p::log1p` meets its contract. Assumes nothing.
-use Rattle.std.proofs.Common.{◌≡◌, true, false, ◌&&◌, ◌||◌, ltb, ⊎_elim}
+use Rattle.std.proofs.Common.{◌≡◌, true, false, ◌&&◌, ◌||◌, ltb}
 use lib.Ieee.{lt}
 use Rattle.floats.specs.Ops.{◌⊕◌, zero}
 use Rattle.floats.specs.Words.{high_word}
@@ -8,18 +8,21 @@ use Rattle.fdlibm.specs.Ints.{◌<ˢ◌, ◌≤ˢ◌, ix_of}
 use Rattle.fdlibm.specs.Log.{two54}
 use Rattle.fdlibm.specs.Log1p.{log1p_of}
 use Rattle.fdlibm.proofs.s_log1p.log1p.Goals as goal
+use Rattle.fdlibm.proofs.s_log1p.log1p.Goals.{Joined-else-x-2, Joined-then-int_lt-2, else-x-2-via-then-x-2+else-ax-lt1016070144, else-x-2-via-else-x-2, then-int_lt-2-via-then-int_lt-2, then-int_lt-2-via-else-int_lt-2+then-int_le}
 
-not-tiny : (c : goal.Joined-else-x-2) → (lt zero (two54 ⊕ c.args.x) && ltb (ix_of c.args.x) 0x3c90_0000) ≡ false
+not-tiny : (c : Joined-else-x-2) → (lt zero (two54 ⊕ c.args.x) && ltb (ix_of c.args.x) 0x3c90_0000) ≡ false
 not-tiny c =
-    ⊎_elim (λ w. search (tests, w.0.taken, w.1.left, ← c.high_word-hx.ensures))
-    (λ w. search (tests, w.left, ← c.high_word-hx.ensures))
-    c.else-x-2.branch
+    elim c.else-x-2.branch [
+      else-x-2-via-then-x-2+else-ax-lt1016070144 w ↦ search (tests, w.if-x-2.true, w.if-ax-lt1016070144.false, ← c.high_word-hx.ensures)
+    | else-x-2-via-else-x-2 w ↦ search (tests, w.if-x-2.false)
+    ]
 
-central : (c : goal.Joined-then-int_lt-2) → let h = high_word c.args.x in (0 <ˢ h || h ≤ˢ 0xbfd2_bec3) ≡ true
+central : (c : Joined-then-int_lt-2) → let h = high_word c.args.x in (0 <ˢ h || h ≤ˢ 0xbfd2_bec3) ≡ true
 central c =
-    ⊎_elim (λ w. search (w.taken, ← c.int_lt-then-int_lt.ensures, ← c.high_word-hx.ensures))
-    (λ w. search (w.0.left, w.2.taken, ← w.1.ensures, ← c.int_lt-then-int_lt.ensures, ← c.high_word-hx.ensures))
-    c.then-int_lt-2.branch
+    elim c.then-int_lt-2.branch [
+      then-int_lt-2-via-then-int_lt-2 w ↦ search (w.if-int_lt-2.true, ← c.int_lt-then-int_lt.ensures, ← c.high_word-hx.ensures)
+    | then-int_lt-2-via-else-int_lt-2+then-int_le w ↦ search (w.if-int_lt-2.false, w.if-int_le.true, ← w.int_le.ensures, ← c.int_lt-then-int_lt.ensures, ← c.high_word-hx.ensures)
+    ]
 
 pub returns-then-x : goal.returns-then-x
 unfolding log1p_of
