@@ -6,13 +6,13 @@
 // 50000 + i before. oracle/complex made stdin and stdout from the Rust's answers and the table of refusals.
 #![tactic(auto)]
 
-ghost use Rattle.std.specs.Prelude.{◌<◌, ◌≤◌, length};
+ghost use Rattle.std.specs.Prelude.{◌<◌, ◌≤◌, length, IfOk};
 ghost use Rattle.io.specs.Counts.{IsPrefixLen};
 
 use complex::Built;
-use libc::{STDIN_FILENO, STDOUT_FILENO};
 use refusals::Refusal;
 use replay::{first, print_end, print_named, print_number, print_numbers, read_words, within};
+use std::io::{Read, Result};
 
 // ---- reading
 
@@ -95,38 +95,39 @@ fn set(settings: &mut [usize; 17], place: usize, n: usize) {
 // ---- printing
 
 // A line with the counts.
-fn print_counts(counts: complex::Counts) {
-    print_named(b"vertices", counts.vertices as u64);
-    print_named(b" pentachorons", counts.pentachorons as u64);
-    print_named(b" edges", counts.edges as u64);
-    print_named(b" triangles", counts.triangles as u64);
-    print_named(b" tets", counts.tets as u64);
-    print_end();
+fn print_counts(rt: &impl Print, counts: complex::Counts) -> Result<()> {
+    print_named(rt, b"vertices", counts.vertices as u64)?;
+    print_named(rt, b" pentachorons", counts.pentachorons as u64)?;
+    print_named(rt, b" edges", counts.edges as u64)?;
+    print_named(rt, b" triangles", counts.triangles as u64)?;
+    print_named(rt, b" tets", counts.tets as u64)?;
+    print_end(rt)
 }
 
 // A line with the refusal's number and place.
-fn print_refusal(refusal: Refusal) {
-    print_named(b"refused", refusal.number() as u64);
-    print_number(refusal.place() as u64);
-    print_end();
+fn print_refusal(rt: &impl Print, refusal: Refusal) -> Result<()> {
+    print_named(rt, b"refused", refusal.number() as u64)?;
+    print_number(rt, refusal.place() as u64)?;
+    print_end(rt)
 }
 
 // A line with the counts or the refusal.
-fn print_built(built: Built) {
+fn print_built(rt: &impl Print, built: Built) -> Result<()> {
     match built {
-        Built::Done(counts) => print_counts(counts),
-        Built::Refused(refusal) => print_refusal(refusal),
+        Built::Done(counts) => print_counts(rt, counts),
+        Built::Refused(refusal) => print_refusal(rt, refusal),
     }
 }
 
 // A line with a list's name and content.
-fn print_list(name: &[u8], list: &[u32]) {
-    io::write_all(STDOUT_FILENO, name);
-    print_numbers(list);
+fn print_list(rt: &impl Print, name: &[u8], list: &[u32]) -> Result<()> {
+    rt.write_all(name)?;
+    print_numbers(rt, list)
 }
 
 // The ten lists, a line for each.
 fn print_lists(
+    rt: &impl Print,
     pents: &[u32],
     edges: &[u32],
     triangles: &[u32],
@@ -137,23 +138,24 @@ fn print_lists(
     edge_to_tris_starts: &[u32],
     edge_to_pents_items: &[u32],
     edge_to_pents_starts: &[u32],
-) {
-    print_list(b"pents", pents);
-    print_list(b"edges", edges);
-    print_list(b"triangles", triangles);
-    print_list(b"tets", tets);
-    print_list(b"tri_to_pents_items", tri_to_pents_items);
-    print_list(b"tri_to_pents_starts", tri_to_pents_starts);
-    print_list(b"edge_to_tris_items", edge_to_tris_items);
-    print_list(b"edge_to_tris_starts", edge_to_tris_starts);
-    print_list(b"edge_to_pents_items", edge_to_pents_items);
-    print_list(b"edge_to_pents_starts", edge_to_pents_starts);
+) -> Result<()> {
+    print_list(rt, b"pents", pents)?;
+    print_list(rt, b"edges", edges)?;
+    print_list(rt, b"triangles", triangles)?;
+    print_list(rt, b"tets", tets)?;
+    print_list(rt, b"tri_to_pents_items", tri_to_pents_items)?;
+    print_list(rt, b"tri_to_pents_starts", tri_to_pents_starts)?;
+    print_list(rt, b"edge_to_tris_items", edge_to_tris_items)?;
+    print_list(rt, b"edge_to_tris_starts", edge_to_tris_starts)?;
+    print_list(rt, b"edge_to_pents_items", edge_to_pents_items)?;
+    print_list(rt, b"edge_to_pents_starts", edge_to_pents_starts)
 }
 
 // ---- checks
 
 // The answer to a check, and its two lists after it.
 fn print_checked(
+    rt: &impl Print,
     counts: complex::Counts,
     pents: &[u32],
     edges: &[u32],
@@ -167,7 +169,7 @@ fn print_checked(
     edge_to_pents_starts: &[u32],
     pent_edges: &mut [u32],
     pent_tris: &mut [u32],
-) {
+) -> Result<()> {
     let outcome = comparison::check_built(
         counts,
         pents,
@@ -183,14 +185,15 @@ fn print_checked(
         pent_edges,
         pent_tris,
     );
-    print_named(b"checked", outcome.number() as u64);
-    print_end();
-    print_list(b"pent_edges", pent_edges);
-    print_list(b"pent_tris", pent_tris);
+    print_named(rt, b"checked", outcome.number() as u64)?;
+    print_end(rt)?;
+    print_list(rt, b"pent_edges", pent_edges)?;
+    print_list(rt, b"pent_tris", pent_tris)
 }
 
 // A check whose two lists have these lengths.
 fn print_lent(
+    rt: &impl Print,
     counts: complex::Counts,
     pents: &[u32],
     edges: &[u32],
@@ -204,10 +207,11 @@ fn print_lent(
     edge_to_pents_starts: &[u32],
     pent_edges: usize,
     pent_tris: usize,
-) {
+) -> Result<()> {
     let n_edges = within(pent_edges, 1000);
     let n_tris = within(pent_tris, 1000);
     print_checked(
+        rt,
         counts,
         pents,
         edges,
@@ -221,11 +225,12 @@ fn print_lent(
         edge_to_pents_starts,
         &mut untouched(n_edges)[..n_edges],
         &mut untouched(n_tris)[..n_tris],
-    );
+    )
 }
 
 // A check by its settings: the five counts, then how many places are lent of the ten lists and of the check's two.
 fn print_check(
+    rt: &impl Print,
     settings: &[usize; 17],
     pents: &[u32; 1000],
     edges: &[u32; 1000],
@@ -237,7 +242,7 @@ fn print_check(
     edge_to_tris_starts: &[u32; 1000],
     edge_to_pents_items: &[u32; 1000],
     edge_to_pents_starts: &[u32; 1000],
-) {
+) -> Result<()> {
     let counts = complex::Counts {
         vertices: settings[0],
         pentachorons: settings[1],
@@ -246,6 +251,7 @@ fn print_check(
         tets: settings[4],
     };
     print_lent(
+        rt,
         counts,
         first(pents, settings[5]),
         first(edges, settings[6]),
@@ -259,7 +265,7 @@ fn print_check(
         first(edge_to_pents_starts, settings[14]),
         settings[15],
         settings[16],
-    );
+    )
 }
 
 // Puts a number at a place of one of the ten lists, of the settings for 10, and what lacks to the largest for 11.
@@ -298,6 +304,7 @@ fn change(
 
 // A check after a line's change: 16 bits for what is changed, 16 for the place, 32 for the number that is put there.
 fn print_change(
+    rt: &impl Print,
     n: u64,
     settings: &mut [usize; 17],
     pents: &mut [u32; 1000],
@@ -310,7 +317,7 @@ fn print_change(
     edge_to_tris_starts: &mut [u32; 1000],
     edge_to_pents_items: &mut [u32; 1000],
     edge_to_pents_starts: &mut [u32; 1000],
-) {
+) -> Result<()> {
     change(
         n / 0x1_0000_0000_0000,
         (n / 0x1_0000_0000 % 0x1_0000) as usize,
@@ -328,6 +335,7 @@ fn print_change(
         edge_to_pents_starts,
     );
     print_check(
+        rt,
         settings,
         pents,
         edges,
@@ -339,11 +347,12 @@ fn print_change(
         edge_to_tris_starts,
         edge_to_pents_items,
         edge_to_pents_starts,
-    );
+    )
 }
 
 // A check, and another after each change of a line.
 fn print_changes(
+    rt: &impl Print,
     line: &[u8],
     settings: &mut [usize; 17],
     pents: &mut [u32; 1000],
@@ -356,8 +365,9 @@ fn print_changes(
     edge_to_tris_starts: &mut [u32; 1000],
     edge_to_pents_items: &mut [u32; 1000],
     edge_to_pents_starts: &mut [u32; 1000],
-) {
+) -> Result<()> {
     print_check(
+        rt,
         settings,
         pents,
         edges,
@@ -369,10 +379,11 @@ fn print_changes(
         edge_to_tris_starts,
         edge_to_pents_items,
         edge_to_pents_starts,
-    );
+    )?;
     let start = 13 + count_of(line);
     for i in 0..changes_of(line) {
         print_change(
+            rt,
             number_at(line, start + i),
             settings,
             pents,
@@ -385,12 +396,14 @@ fn print_changes(
             edge_to_tris_starts,
             edge_to_pents_items,
             edge_to_pents_starts,
-        );
+        )?;
     }
+    Ok(())
 }
 
 // The checks of a line that built these lists.
 fn print_checks(
+    rt: &impl Print,
     line: &[u8],
     counts: complex::Counts,
     pents: &[u32],
@@ -403,7 +416,7 @@ fn print_checks(
     edge_to_tris_starts: &[u32],
     edge_to_pents_items: &[u32],
     edge_to_pents_starts: &[u32],
-) {
+) -> Result<()> {
     let room = 2 * count_of(line);
     let mut settings = [
         counts.vertices,
@@ -425,6 +438,7 @@ fn print_checks(
         room,
     ];
     print_changes(
+        rt,
         line,
         &mut settings,
         &mut copied(pents),
@@ -437,13 +451,14 @@ fn print_checks(
         &mut copied(edge_to_tris_starts),
         &mut copied(edge_to_pents_items),
         &mut copied(edge_to_pents_starts),
-    );
+    )
 }
 
 // ---- calls
 
 // A line's answer and lent lists after it, and its checks where it built.
 fn print_answer(
+    rt: &impl Print,
     line: &[u8],
     built: Built,
     pents: &[u32],
@@ -456,9 +471,10 @@ fn print_answer(
     edge_to_tris_starts: &[u32],
     edge_to_pents_items: &[u32],
     edge_to_pents_starts: &[u32],
-) {
-    print_built(built);
+) -> Result<()> {
+    print_built(rt, built)?;
     print_lists(
+        rt,
         pents,
         edges,
         triangles,
@@ -469,9 +485,10 @@ fn print_answer(
         edge_to_tris_starts,
         edge_to_pents_items,
         edge_to_pents_starts,
-    );
+    )?;
     if let Built::Done(counts) = built {
         print_checks(
+            rt,
             line,
             counts,
             pents,
@@ -484,12 +501,14 @@ fn print_answer(
             edge_to_tris_starts,
             edge_to_pents_items,
             edge_to_pents_starts,
-        );
+        )?;
     }
+    Ok(())
 }
 
 // The answer to a line's call on these lists.
 fn print_call(
+    rt: &impl Print,
     line: &[u8],
     given: &[u32],
     pents: &mut [u32],
@@ -502,7 +521,7 @@ fn print_call(
     edge_to_tris_starts: &mut [u32],
     edge_to_pents_items: &mut [u32],
     edge_to_pents_starts: &mut [u32],
-) {
+) -> Result<()> {
     let built = builder::from_pentachorons(
         number_at(line, 1) as usize,
         given,
@@ -518,6 +537,7 @@ fn print_call(
         edge_to_pents_starts,
     );
     print_answer(
+        rt,
         line,
         built,
         pents,
@@ -530,11 +550,11 @@ fn print_call(
         edge_to_tris_starts,
         edge_to_pents_items,
         edge_to_pents_starts,
-    );
+    )
 }
 
 // The answer to a line whose pentachorons are given.
-fn print_line(line: &[u8], given: &[u32]) {
+fn print_line(rt: &impl Print, line: &[u8], given: &[u32]) -> Result<()> {
     let pents = length_of(line, 0);
     let edges = length_of(line, 1);
     let triangles = length_of(line, 2);
@@ -546,6 +566,7 @@ fn print_line(line: &[u8], given: &[u32]) {
     let edge_to_pents_items = length_of(line, 8);
     let edge_to_pents_starts = length_of(line, 9);
     print_call(
+        rt,
         line,
         given,
         &mut untouched(pents)[..pents],
@@ -558,33 +579,34 @@ fn print_line(line: &[u8], given: &[u32]) {
         &mut untouched(edge_to_tris_starts)[..edge_to_tris_starts],
         &mut untouched(edge_to_pents_items)[..edge_to_pents_items],
         &mut untouched(edge_to_pents_starts)[..edge_to_pents_starts],
-    );
+    )
 }
 
 // ---- the text
 
 // The answer to the line that starts at `at`, and where the next line starts.
-fn print_line_at(text: &[u8], at: usize) -> usize
+fn print_line_at(rt: &impl Print, text: &[u8], at: usize) -> Result<usize>
     requires { at < length text.now }
-    ensures { at < result }
+    ensures { IfOk result (λ next. at < next) }
 {
     let line = &text[at..];
     let count = count_of(line);
     let vertices = vertices_of(line, count);
-    print_line(line, &vertices[..count]);
-    at + 17 * (13 + count + changes_of(line))
+    print_line(rt, line, &vertices[..count])?;
+    Ok(at + 17 * (13 + count + changes_of(line)))
 }
 
 // The answers to each line of the text.
-fn print_lines(text: &[u8]) {
+fn print_lines(rt: &impl Print, text: &[u8]) -> Result<()> {
     let mut at = 0;
     while at < text.len() {
-        at = print_line_at(text, at);
+        at = print_line_at(rt, text, at)?;
     }
+    Ok(())
 }
 
-fn main() {
-    let mut text = io::large_buffer();
-    let n = io::read_full(STDIN_FILENO, &mut text);
-    print_lines(&text[..n]);
+fn main(rt: HostRuntime) -> Result<()> {
+    let mut text = Vec::new(rt.alloc());
+    rt.stdin().take(65536).read_to_end(&mut text)?;
+    print_lines(&rt, &text)
 }

@@ -3,44 +3,45 @@
 // name, and the answer's bits, or nan. oracle/fdlibm made stdin and stdout from the C's answers.
 #![tactic(auto)]
 
-use libc::{STDIN_FILENO, STDOUT_FILENO};
+use std::io::{Read, Result};
 
 // What stands for the digits and the end of one line.
 const LINE: usize = 17;
 
 // One line: the input's bits, the function's name and its answer.
-fn print_answer(input: u64, name: &[u8], answer: f64) {
-    io::print_hex(STDOUT_FILENO, input, 16);
-    io::write_all(STDOUT_FILENO, name);
+fn print_answer(rt: &impl Print, input: u64, name: &[u8], answer: f64) -> Result<()> {
+    print!(rt; "{input:016x}")?;
+    rt.write_all(name)?;
     let text = printing::double_text(answer);
     let bytes = text.bytes;
     let len = text.len;
-    io::write_all(STDOUT_FILENO, &bytes[..len]);
-    io::write_all(STDOUT_FILENO, b"\n");
+    rt.write_all(&bytes[..len])?;
+    rt.write_all(b"\n")
 }
 
 // The six lines of one input.
-fn print_answers(input: u64) {
+fn print_answers(rt: &impl Print, input: u64) -> Result<()> {
     let x = floats::of_bits(input);
-    print_answer(input, b" root ", root::root(x));
-    print_answer(input, b" log ", fdlibm::log(x));
-    print_answer(input, b" log1p ", fdlibm::log1p(x));
-    print_answer(input, b" acos ", fdlibm::acos(x));
-    print_answer(input, b" acosh ", fdlibm::acosh(x));
-    print_answer(input, b" asinh ", fdlibm::asinh(x));
+    print_answer(rt, input, b" root ", root::root(x))?;
+    print_answer(rt, input, b" log ", fdlibm::log(x))?;
+    print_answer(rt, input, b" log1p ", fdlibm::log1p(x))?;
+    print_answer(rt, input, b" acos ", fdlibm::acos(x))?;
+    print_answer(rt, input, b" acosh ", fdlibm::acosh(x))?;
+    print_answer(rt, input, b" asinh ", fdlibm::asinh(x))
 }
 
 // The answers to each whole line of the text.
-fn print_lines(text: &[u8]) {
+fn print_lines(rt: &impl Print, text: &[u8]) -> Result<()> {
     let mut at = 0;
     while LINE <= text.len() - at {
-        print_answers(replay::number(text, at));
+        print_answers(rt, replay::number(text, at))?;
         at += LINE;
     }
+    Ok(())
 }
 
-fn main() {
-    let mut text = io::large_buffer();
-    let n = io::read_full(STDIN_FILENO, &mut text);
-    print_lines(&text[..n]);
+fn main(rt: HostRuntime) -> Result<()> {
+    let mut text = Vec::new(rt.alloc());
+    rt.stdin().take(65536).read_to_end(&mut text)?;
+    print_lines(&rt, &text)
 }

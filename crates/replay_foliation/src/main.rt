@@ -9,14 +9,14 @@
 // the list's number as its bits. oracle/foliation made stdin and stdout from the Rust's answers and the table of refusals.
 #![tactic(auto)]
 
-ghost use Rattle.std.specs.Prelude.{◌<◌, length};
+ghost use Rattle.std.specs.Prelude.{◌<◌, length, IfOk};
 
 use complex::{Built, Counts};
 use foliation::{Lattice, Listed};
-use libc::{STDIN_FILENO, STDOUT_FILENO};
 use replay::{
     fill_doubles, fill_numbers, first, print_double, print_end, print_named, print_number, within,
 };
+use std::io::{Read, Result};
 
 // The lengths of both kinds of line.
 const LISTING: usize = 53;
@@ -71,9 +71,9 @@ fn put(list: &mut List, place: usize, n: u32) {
 // ---- printing
 
 // The checksum at the end of a line.
-fn print_sum(sum: u64) {
-    print_named(b" sum", sum);
-    print_end();
+fn print_sum(rt: &impl Print, sum: u64) -> Result<()> {
+    print_named(rt, b" sum", sum)?;
+    print_end(rt)
 }
 
 // A checksum with the lower 32 bits of a number added.
@@ -82,73 +82,74 @@ fn mixed(sum: u64, n: u64) -> u64 {
 }
 
 // A checksum with a number added, which is printed where the list is printed whole.
-fn print_entry(whole: bool, sum: u64, n: u64) -> u64 {
+fn print_entry(rt: &impl Print, whole: bool, sum: u64, n: u64) -> Result<u64> {
     if whole {
-        print_number(n);
+        print_number(rt, n)?;
     }
-    mixed(sum, n)
+    Ok(mixed(sum, n))
 }
 
 // The same of a double, whose bits are added.
-fn print_double_entry(whole: bool, sum: u64, x: f64) -> u64 {
+fn print_double_entry(rt: &impl Print, whole: bool, sum: u64, x: f64) -> Result<u64> {
     if whole {
-        print_double(x);
+        print_double(rt, x)?;
     }
     let bits = floats::bits_of(x);
-    mixed(mixed(sum, bits / 0x1_0000_0000), bits)
+    Ok(mixed(mixed(sum, bits / 0x1_0000_0000), bits))
 }
 
 // A line with a list, whole if it has at most 2000 places.
-fn print_list(name: &[u8], list: &[u32]) {
-    io::write_all(STDOUT_FILENO, name);
+fn print_list(rt: &impl Print, name: &[u8], list: &[u32]) -> Result<()> {
+    rt.write_all(name)?;
     let mut sum = 0;
     for i in 0..list.len() {
-        sum = print_entry(list.len() <= 2000, sum, list[i] as u64);
+        sum = print_entry(rt, list.len() <= 2000, sum, list[i] as u64)?;
     }
-    print_sum(sum);
+    print_sum(rt, sum)
 }
 
 // A line with types, whole if there are at most 400.
-fn print_types(types: &[u8]) {
+fn print_types(rt: &impl Print, types: &[u8]) -> Result<()> {
     let mut sum = 0;
     for i in 0..types.len() {
-        sum = print_entry(types.len() <= 400, sum, types[i] as u64);
+        sum = print_entry(rt, types.len() <= 400, sum, types[i] as u64)?;
     }
-    print_sum(sum);
+    print_sum(rt, sum)
 }
 
 // A line with lengths, whole if there are at most 400.
-fn print_lengths(lengths: &[f64]) {
+fn print_lengths(rt: &impl Print, lengths: &[f64]) -> Result<()> {
     let mut sum = 0;
     for i in 0..lengths.len() {
-        sum = print_double_entry(lengths.len() <= 400, sum, lengths[i]);
+        sum = print_double_entry(rt, lengths.len() <= 400, sum, lengths[i])?;
     }
-    print_sum(sum);
+    print_sum(rt, sum)
 }
 
 // ---- listing
 
 // The answer to a line `l` on this list.
-fn print_listed(line: &[u8], pents: &mut [u32]) {
+fn print_listed(rt: &impl Print, line: &[u8], pents: &mut [u32]) -> Result<()> {
     fill_numbers(pents);
     let listed = foliation::foliated_hypercubic(lattice_at(line, 0), pents);
-    print_named(b"listed", listed.number() as u64);
-    print_number(listed.count_or(77) as u64);
-    print_end();
-    print_list(b"pents", pents);
+    print_named(rt, b"listed", listed.number() as u64)?;
+    print_number(rt, listed.count_or(77) as u64)?;
+    print_end(rt)?;
+    print_list(rt, b"pents", pents)
 }
 
 // The answer to a line `l`.
-fn print_listing(line: &[u8]) {
+fn print_listing(rt: &impl Print, line: &[u8]) -> Result<()> {
     let room = within(size_at(line, 2), 50000);
     let mut pents = [0; 50000];
-    print_listed(line, &mut pents[..room]);
+    print_listed(rt, line, &mut pents[..room])
 }
 
 // ---- edges
 
 // The types of a line `f`.
 fn print_edge_types(
+    rt: &impl Print,
     line: &[u8],
     counts: Counts,
     pents: &[u32],
@@ -162,7 +163,7 @@ fn print_edge_types(
     edge_to_pents_items: &[u32],
     edge_to_pents_starts: &[u32],
     types: &mut [u8],
-) {
+) -> Result<()> {
     fill_types(types);
     let outcome = lattice_edges::edge_types(
         lattice_at(line, 0),
@@ -179,12 +180,13 @@ fn print_edge_types(
         edge_to_pents_starts,
         types,
     );
-    print_named(b"types", outcome.number() as u64);
-    print_types(types);
+    print_named(rt, b"types", outcome.number() as u64)?;
+    print_types(rt, types)
 }
 
 // The lengths of a line `f`.
 fn print_sq_lengths(
+    rt: &impl Print,
     line: &[u8],
     counts: Counts,
     pents: &[u32],
@@ -198,7 +200,7 @@ fn print_sq_lengths(
     edge_to_pents_items: &[u32],
     edge_to_pents_starts: &[u32],
     lengths: &mut [f64],
-) {
+) -> Result<()> {
     fill_doubles(lengths);
     let outcome = lattice_edges::flat_minkowski_sq_lengths(
         lattice_at(line, 0),
@@ -217,12 +219,13 @@ fn print_sq_lengths(
         floats::of_bits(number_at(line, 7)),
         lengths,
     );
-    print_named(b"lengths", outcome.number() as u64);
-    print_lengths(lengths);
+    print_named(rt, b"lengths", outcome.number() as u64)?;
+    print_lengths(rt, lengths)
 }
 
 // Both answers to a line `f` on these lists.
 fn print_edges(
+    rt: &impl Print,
     line: &[u8],
     counts: Counts,
     pents: &[u32],
@@ -235,10 +238,11 @@ fn print_edges(
     edge_to_tris_starts: &[u32],
     edge_to_pents_items: &[u32],
     edge_to_pents_starts: &[u32],
-) {
+) -> Result<()> {
     let room = within(size_at(line, 5), 2000);
     let mut types = [0; 2000];
     print_edge_types(
+        rt,
         line,
         counts,
         pents,
@@ -252,9 +256,10 @@ fn print_edges(
         edge_to_pents_items,
         edge_to_pents_starts,
         &mut types[..room],
-    );
+    )?;
     let mut lengths = [0.0; 2000];
     print_sq_lengths(
+        rt,
         line,
         counts,
         pents,
@@ -268,7 +273,7 @@ fn print_edges(
         edge_to_pents_items,
         edge_to_pents_starts,
         &mut lengths[..room],
-    );
+    )
 }
 
 // What a line `f` changes: a list, a place of it, and the number that is put there.
@@ -349,6 +354,7 @@ fn make(
 
 // Both answers to a line `f` on these lists, if they were built.
 fn print_answers(
+    rt: &impl Print,
     line: &[u8],
     built: Built,
     pents: &List,
@@ -361,9 +367,10 @@ fn print_answers(
     edge_to_tris_starts: &List,
     edge_to_pents_items: &List,
     edge_to_pents_starts: &List,
-) {
+) -> Result<()> {
     if let Built::Done(counts) = built {
         print_edges(
+            rt,
             line,
             changed(counts, change_at(line)),
             pents,
@@ -376,12 +383,13 @@ fn print_answers(
             edge_to_tris_starts,
             edge_to_pents_items,
             edge_to_pents_starts,
-        );
+        )?;
     }
+    Ok(())
 }
 
 // Both answers to a line `f` whose `count` pentachorons are given.
-fn print_given(line: &[u8], count: usize, given: &List) {
+fn print_given(rt: &impl Print, line: &[u8], count: usize, given: &List) -> Result<()> {
     let mut pents = [0; 58320];
     let mut edges = [0; 58320];
     let mut triangles = [0; 58320];
@@ -420,6 +428,7 @@ fn print_given(line: &[u8], count: usize, given: &List) {
         &mut edge_to_pents_starts,
     );
     print_answers(
+        rt,
         line,
         built,
         &pents,
@@ -432,45 +441,47 @@ fn print_given(line: &[u8], count: usize, given: &List) {
         &edge_to_tris_starts,
         &edge_to_pents_items,
         &edge_to_pents_starts,
-    );
+    )
 }
 
 // Both answers to a line `f`.
-fn print_over(line: &[u8]) {
+fn print_over(rt: &impl Print, line: &[u8]) -> Result<()> {
     let mut given = [0; 58320];
     let listed = foliation::foliated_hypercubic(lattice_at(line, 2), &mut given);
     make_given(change_at(line), &mut given);
     if let Listed::Done(count) = listed {
-        print_given(line, count, &given);
+        print_given(rt, line, count, &given)?;
     }
+    Ok(())
 }
 
 // ---- the text
 
 // The answers to the line that starts at `at`, and where the next line starts.
-fn print_line(text: &[u8], at: usize) -> usize
+fn print_line(rt: &impl Print, text: &[u8], at: usize) -> Result<usize>
     requires { at < length text.now }
-    ensures { at < result }
+    ensures { IfOk result (λ next. at < next) }
 {
     let line = &text[at..];
     if text[at] == b'l' {
-        print_listing(line);
-        return at + LISTING;
+        print_listing(rt, line)?;
+        return Ok(at + LISTING);
     }
-    print_over(line);
-    at + EDGES
+    print_over(rt, line)?;
+    Ok(at + EDGES)
 }
 
 // The answers to each line of the text.
-fn print_lines(text: &[u8]) {
+fn print_lines(rt: &impl Print, text: &[u8]) -> Result<()> {
     let mut at = 0;
     while at < text.len() {
-        at = print_line(text, at);
+        at = print_line(rt, text, at)?;
     }
+    Ok(())
 }
 
-fn main() {
-    let mut text = io::large_buffer();
-    let n = io::read_full(STDIN_FILENO, &mut text);
-    print_lines(&text[..n]);
+fn main(rt: HostRuntime) -> Result<()> {
+    let mut text = Vec::new(rt.alloc());
+    rt.stdin().take(65536).read_to_end(&mut text)?;
+    print_lines(&rt, &text)
 }

@@ -13,17 +13,17 @@
 // table of refusals.
 #![tactic(auto)]
 
-ghost use Rattle.std.specs.Prelude.{◌+◌, ◌<◌, ◌≤◌, length};
+ghost use Rattle.std.specs.Prelude.{◌+◌, ◌<◌, ◌≤◌, length, IfOk};
 
 use complex::{Built, Counts};
 use incidence::TriangleNumber;
-use libc::{STDIN_FILENO, STDOUT_FILENO};
 use lorentzian::HingeType;
 use lorentzian_regge::{Hinge, KindByte};
 use replay::{
     fill_doubles, fill_numbers, print_double, print_doubles, print_end, print_named, print_number,
     print_numbers, read_doubles, read_words, within,
 };
+use std::io::{Read, Result};
 
 // A list of a complex, with the longest room that 8 pentachorons ask for.
 type List = [u32; 240];
@@ -144,49 +144,44 @@ fn put(list: &mut List, place: usize, n: u32) {
 // ---- printing
 
 // A space and a kind's letter.
-fn print_kind(kind: HingeType) {
+fn print_kind(rt: &impl Print, kind: HingeType) -> Result<()> {
     match kind {
-        HingeType::Spacelike => {
-            io::write_all(STDOUT_FILENO, b" S");
-        }
-        HingeType::Timelike => {
-            io::write_all(STDOUT_FILENO, b" T");
-        }
+        HingeType::Spacelike => rt.write_all(b" S"),
+        HingeType::Timelike => rt.write_all(b" T"),
     }
 }
 
 // A space and the letter of the kind that a byte stands for.
-fn print_byte(byte: u8) {
+fn print_byte(rt: &impl Print, byte: u8) -> Result<()> {
     match lorentzian_regge::kind_in(byte) {
-        KindByte::Kind(kind) => print_kind(kind),
-        KindByte::NoKind => {
-            io::write_all(STDOUT_FILENO, b" -");
-        }
+        KindByte::Kind(kind) => print_kind(rt, kind),
+        KindByte::NoKind => rt.write_all(b" -"),
     }
 }
 
 // A line with kinds.
-fn print_kinds(kinds: &[u8]) {
-    io::write_all(STDOUT_FILENO, b"kinds");
+fn print_kinds(rt: &impl Print, kinds: &[u8]) -> Result<()> {
+    rt.write_all(b"kinds")?;
     for i in 0..kinds.len() {
-        print_byte(kinds[i]);
+        print_byte(rt, kinds[i])?;
     }
-    print_end();
+    print_end(rt)
 }
 
 // A line with the signs of lengths.
-fn print_signs(sq_lengths: &[f64]) {
+fn print_signs(rt: &impl Print, sq_lengths: &[f64]) -> Result<()> {
     let signs = length_signs::length_signs(sq_lengths);
-    print_named(b"timelike", signs.timelike as u64);
-    print_named(b" null", signs.null as u64);
-    print_named(b" spacelike", signs.spacelike as u64);
-    print_end();
+    print_named(rt, b"timelike", signs.timelike as u64)?;
+    print_named(rt, b" null", signs.null as u64)?;
+    print_named(rt, b" spacelike", signs.spacelike as u64)?;
+    print_end(rt)
 }
 
 // ---- calls
 
 // The deficits and kinds of all triangles.
 fn print_deficits<'a>(
+    rt: &impl Print,
     counts: Counts,
     pents: &'a [u32],
     edges: &'a [u32],
@@ -201,7 +196,7 @@ fn print_deficits<'a>(
     sq_lengths: &'a [f64],
     deficits: &mut [f64],
     kinds: &mut [u8],
-) {
+) -> Result<()> {
     fill_doubles(deficits);
     let outcome = lorentzian_regge::lorentzian_deficit_angles(
         counts,
@@ -219,13 +214,14 @@ fn print_deficits<'a>(
         deficits,
         kinds,
     );
-    print_named(b"deficits", outcome.number() as u64);
-    print_doubles(deficits);
-    print_kinds(kinds);
+    print_named(rt, b"deficits", outcome.number() as u64)?;
+    print_doubles(rt, deficits)?;
+    print_kinds(rt, kinds)
 }
 
 // The hinge of a triangle.
 fn print_hinge<'a>(
+    rt: &impl Print,
     counts: Counts,
     pents: &'a [u32],
     edges: &'a [u32],
@@ -239,7 +235,7 @@ fn print_hinge<'a>(
     edge_to_pents_starts: &'a [u32],
     sq_lengths: &'a [f64],
     tri: TriangleNumber,
-) {
+) -> Result<()> {
     let answer = lorentzian_regge::lorentzian_deficit_angle(
         counts,
         pents,
@@ -259,16 +255,17 @@ fn print_hinge<'a>(
         deficit: floats::of_bits(50000),
         kind: HingeType::Timelike,
     };
-    print_named(b"hinge", answer.number() as u64);
+    print_named(rt, b"hinge", answer.number() as u64)?;
     let hinge = answer.hinge_or(other);
     let kind = hinge.kind;
-    print_double(hinge.deficit);
-    print_kind(kind);
-    print_end();
+    print_double(rt, hinge.deficit)?;
+    print_kind(rt, kind)?;
+    print_end(rt)
 }
 
 // The action.
 fn print_action<'a>(
+    rt: &impl Print,
     counts: Counts,
     pents: &'a [u32],
     edges: &'a [u32],
@@ -281,7 +278,7 @@ fn print_action<'a>(
     edge_to_pents_items: &'a [u32],
     edge_to_pents_starts: &'a [u32],
     sq_lengths: &'a [f64],
-) {
+) -> Result<()> {
     let answer = lorentzian_regge::lorentzian_regge_action(
         counts,
         pents,
@@ -296,13 +293,14 @@ fn print_action<'a>(
         edge_to_pents_starts,
         sq_lengths,
     );
-    print_named(b"action", answer.number() as u64);
-    print_double(answer.value_or(floats::of_bits(50000)));
-    print_end();
+    print_named(rt, b"action", answer.number() as u64)?;
+    print_double(rt, answer.value_or(floats::of_bits(50000)))?;
+    print_end(rt)
 }
 
 // The gradient.
 fn print_grad<'a>(
+    rt: &impl Print,
     counts: Counts,
     pents: &'a [u32],
     edges: &'a [u32],
@@ -316,7 +314,7 @@ fn print_grad<'a>(
     edge_to_pents_starts: &'a [u32],
     sq_lengths: &'a [f64],
     grad: &mut [f64],
-) {
+) -> Result<()> {
     fill_doubles(grad);
     let outcome = lorentzian_regge::lorentzian_regge_action_grad(
         counts,
@@ -333,14 +331,15 @@ fn print_grad<'a>(
         sq_lengths,
         grad,
     );
-    print_named(b"grad", outcome.number() as u64);
-    print_doubles(grad);
+    print_named(rt, b"grad", outcome.number() as u64)?;
+    print_doubles(rt, grad)
 }
 
 // ---- calls over free edges
 
 // The triangles on free edges with their deficits and kinds.
 fn print_local_deficits<'a>(
+    rt: &impl Print,
     counts: Counts,
     pents: &'a [u32],
     edges: &'a [u32],
@@ -357,7 +356,7 @@ fn print_local_deficits<'a>(
     tris: &mut [u32],
     deficits: &mut [f64],
     kinds: &mut [u8],
-) {
+) -> Result<()> {
     fill_numbers(tris);
     fill_doubles(deficits);
     let answer = local_regge::local_deficit_angles(
@@ -378,16 +377,17 @@ fn print_local_deficits<'a>(
         deficits,
         kinds,
     );
-    print_named(b"local", answer.number() as u64);
-    print_number(answer.count_or(50000) as u64);
-    print_numbers(tris);
-    io::write_all(STDOUT_FILENO, b"deficits");
-    print_doubles(deficits);
-    print_kinds(kinds);
+    print_named(rt, b"local", answer.number() as u64)?;
+    print_number(rt, answer.count_or(50000) as u64)?;
+    print_numbers(rt, tris)?;
+    rt.write_all(b"deficits")?;
+    print_doubles(rt, deficits)?;
+    print_kinds(rt, kinds)
 }
 
 // The gradient at free edges.
 fn print_local_grad<'a>(
+    rt: &impl Print,
     counts: Counts,
     pents: &'a [u32],
     edges: &'a [u32],
@@ -402,7 +402,7 @@ fn print_local_grad<'a>(
     sq_lengths: &'a [f64],
     free_edges: &'a [u32],
     grad: &mut [f64],
-) {
+) -> Result<()> {
     fill_doubles(grad);
     let outcome = local_regge::local_lorentzian_regge_action_grad(
         counts,
@@ -420,12 +420,13 @@ fn print_local_grad<'a>(
         free_edges,
         grad,
     );
-    print_named(b"local grad", outcome.number() as u64);
-    print_doubles(grad);
+    print_named(rt, b"local grad", outcome.number() as u64)?;
+    print_doubles(rt, grad)
 }
 
 // The Hessian at free edges.
 fn print_hessian<'a>(
+    rt: &impl Print,
     counts: Counts,
     pents: &'a [u32],
     edges: &'a [u32],
@@ -441,7 +442,7 @@ fn print_hessian<'a>(
     free_edges: &'a [u32],
     step: f64,
     hessian: &mut [f64],
-) {
+) -> Result<()> {
     fill_doubles(hessian);
     let outcome = local_regge::local_lorentzian_regge_hessian(
         counts,
@@ -460,12 +461,13 @@ fn print_hessian<'a>(
         step,
         hessian,
     );
-    print_named(b"hessian", outcome.number() as u64);
-    print_doubles(hessian);
+    print_named(rt, b"hessian", outcome.number() as u64)?;
+    print_doubles(rt, hessian)
 }
 
 // All answers to a line for these free edges.
 fn print_local<'a>(
+    rt: &impl Print,
     line: &'a [u8],
     counts: Counts,
     pents: &'a [u32],
@@ -480,7 +482,7 @@ fn print_local<'a>(
     edge_to_pents_starts: &'a [u32],
     sq_lengths: &'a [f64],
     free_edges: &'a [u32],
-) {
+) -> Result<()> {
     let tris_room = local_room_of(line, 0x100);
     let deficits_room = local_room_of(line, 0x1_0000);
     let kinds_room = local_room_of(line, 0x100_0000);
@@ -492,6 +494,7 @@ fn print_local<'a>(
     let mut grad = [0.0; 100];
     let mut hessian = [0.0; 100];
     print_local_deficits(
+        rt,
         counts,
         pents,
         edges,
@@ -508,8 +511,9 @@ fn print_local<'a>(
         &mut tris[..tris_room],
         &mut deficits[..deficits_room],
         &mut kinds[..kinds_room],
-    );
+    )?;
     print_local_grad(
+        rt,
         counts,
         pents,
         edges,
@@ -524,8 +528,9 @@ fn print_local<'a>(
         sq_lengths,
         free_edges,
         &mut grad[..grad_room],
-    );
+    )?;
     print_hessian(
+        rt,
         counts,
         pents,
         edges,
@@ -541,11 +546,12 @@ fn print_local<'a>(
         free_edges,
         step_of(line),
         &mut hessian[..hessian_room],
-    );
+    )
 }
 
 // All answers to a line on these lists and lengths.
 fn print_calls<'a>(
+    rt: &impl Print,
     line: &'a [u8],
     counts: Counts,
     pents: &'a [u32],
@@ -559,7 +565,7 @@ fn print_calls<'a>(
     edge_to_pents_items: &'a [u32],
     edge_to_pents_starts: &'a [u32],
     sq_lengths: &'a [f64],
-) {
+) -> Result<()> {
     let deficits_room = room_of(line, 0);
     let kinds_room = room_of(line, 1);
     let grad_room = room_of(line, 2);
@@ -567,6 +573,7 @@ fn print_calls<'a>(
     let mut kinds = [9u8; 100];
     let mut grad = [0.0; 100];
     print_deficits(
+        rt,
         counts,
         pents,
         edges,
@@ -581,8 +588,9 @@ fn print_calls<'a>(
         sq_lengths,
         &mut deficits[..deficits_room],
         &mut kinds[..kinds_room],
-    );
+    )?;
     print_hinge(
+        rt,
         counts,
         pents,
         edges,
@@ -596,8 +604,9 @@ fn print_calls<'a>(
         edge_to_pents_starts,
         sq_lengths,
         triangle_of(line),
-    );
+    )?;
     print_action(
+        rt,
         counts,
         pents,
         edges,
@@ -610,8 +619,9 @@ fn print_calls<'a>(
         edge_to_pents_items,
         edge_to_pents_starts,
         sq_lengths,
-    );
+    )?;
     print_grad(
+        rt,
         counts,
         pents,
         edges,
@@ -625,11 +635,12 @@ fn print_calls<'a>(
         edge_to_pents_starts,
         sq_lengths,
         &mut grad[..grad_room],
-    );
-    print_signs(sq_lengths);
+    )?;
+    print_signs(rt, sq_lengths)?;
     let free_edges = free_edges_of(line);
     let frees = frees_of(line);
     print_local(
+        rt,
         line,
         counts,
         pents,
@@ -644,7 +655,7 @@ fn print_calls<'a>(
         edge_to_pents_starts,
         sq_lengths,
         &free_edges[..frees],
-    );
+    )
 }
 
 // ---- changes
@@ -722,6 +733,7 @@ fn make(
 
 // All answers to a line on these lists, if they were built.
 fn print_answers<'a>(
+    rt: &impl Print,
     line: &'a [u8],
     built: Built,
     pents: &'a List,
@@ -734,11 +746,12 @@ fn print_answers<'a>(
     edge_to_tris_starts: &'a List,
     edge_to_pents_items: &'a List,
     edge_to_pents_starts: &'a List,
-) {
+) -> Result<()> {
     if let Built::Done(counts) = built {
         let sq_lengths = sq_lengths_of(line);
         let lengths = lengths_of(line);
         print_calls(
+            rt,
             line,
             changed(counts, change_at(line)),
             pents,
@@ -752,12 +765,13 @@ fn print_answers<'a>(
             edge_to_pents_items,
             edge_to_pents_starts,
             &sq_lengths[..lengths],
-        );
+        )?;
     }
+    Ok(())
 }
 
 // All answers to a line whose pentachorons are given.
-fn print_given(line: &[u8], given: &[u32]) {
+fn print_given(rt: &impl Print, line: &[u8], given: &[u32]) -> Result<()> {
     let mut pents = [0; 240];
     let mut edges = [0; 240];
     let mut triangles = [0; 240];
@@ -796,6 +810,7 @@ fn print_given(line: &[u8], given: &[u32]) {
         &mut edge_to_pents_starts,
     );
     print_answers(
+        rt,
         line,
         built,
         &pents,
@@ -808,33 +823,34 @@ fn print_given(line: &[u8], given: &[u32]) {
         &edge_to_tris_starts,
         &edge_to_pents_items,
         &edge_to_pents_starts,
-    );
+    )
 }
 
 // ---- the text
 
 // The answers to the line that starts at `at`, and where the next line starts.
-fn print_line(text: &[u8], at: usize) -> usize
+fn print_line(rt: &impl Print, text: &[u8], at: usize) -> Result<usize>
     requires { at < length text.now }
-    ensures { at < result }
+    ensures { IfOk result (λ next. at < next) }
 {
     let line = &text[at..];
     let given = given_of(line);
     let pents = pents_of(line);
-    print_given(line, &given[..5 * pents]);
-    at + 17 * (10 + pents + lengths_of(line) + frees_of(line))
+    print_given(rt, line, &given[..5 * pents])?;
+    Ok(at + 17 * (10 + pents + lengths_of(line) + frees_of(line)))
 }
 
 // The answers to each line of the text.
-fn print_lines(text: &[u8]) {
+fn print_lines(rt: &impl Print, text: &[u8]) -> Result<()> {
     let mut at = 0;
     while at < text.len() {
-        at = print_line(text, at);
+        at = print_line(rt, text, at)?;
     }
+    Ok(())
 }
 
-fn main() {
-    let mut text = io::large_buffer();
-    let n = io::read_full(STDIN_FILENO, &mut text);
-    print_lines(&text[..n]);
+fn main(rt: HostRuntime) -> Result<()> {
+    let mut text = Vec::new(rt.alloc());
+    rt.stdin().take(65536).read_to_end(&mut text)?;
+    print_lines(&rt, &text)
 }

@@ -11,17 +11,17 @@
 // answers and the table of refusals.
 #![tactic(auto)]
 
-ghost use Rattle.std.specs.Prelude.{◌<◌, ◌≤◌, length};
+ghost use Rattle.std.specs.Prelude.{◌<◌, ◌≤◌, length, IfOk};
 
 use complex::{Built, Counts};
 use hinge_table::Hinge;
 use hinges::kind_in;
 use incidence::EdgeNumber;
-use libc::{STDIN_FILENO, STDOUT_FILENO};
 use lorentzian::HingeType;
 use replay::{
     print_doubles, print_end, print_named, print_number, read_doubles, read_words, within,
 };
+use std::io::{Read, Result};
 
 // A list of a complex, with the longest room that 8 pentachorons ask for.
 type List = [u32; 240];
@@ -190,21 +190,26 @@ fn record_of(line: &[u8]) -> Hinge {
 // ---- printing
 
 // A line with the bytes of kinds.
-fn print_kinds(kinds: &[u8]) {
-    io::write_all(STDOUT_FILENO, b"kinds");
+fn print_kinds(rt: &impl Print, kinds: &[u8]) -> Result<()> {
+    rt.write_all(b"kinds")?;
     for i in 0..kinds.len() {
-        print_number(kinds[i] as u64);
+        print_number(rt, kinds[i] as u64)?;
     }
-    print_end();
+    print_end(rt)
 }
 
 // Lines with lengths, deficits and kinds.
-fn print_left<'a>(sq_lengths: &'a [f64], deficits: &'a [f64], kinds: &'a [u8]) {
-    io::write_all(STDOUT_FILENO, b"lengths");
-    print_doubles(sq_lengths);
-    io::write_all(STDOUT_FILENO, b"deficits");
-    print_doubles(deficits);
-    print_kinds(kinds);
+fn print_left<'a>(
+    rt: &impl Print,
+    sq_lengths: &'a [f64],
+    deficits: &'a [f64],
+    kinds: &'a [u8],
+) -> Result<()> {
+    rt.write_all(b"lengths")?;
+    print_doubles(rt, sq_lengths)?;
+    rt.write_all(b"deficits")?;
+    print_doubles(rt, deficits)?;
+    print_kinds(rt, kinds)
 }
 
 // ---- calls on plain lists
@@ -249,6 +254,7 @@ fn work_out<'a>(
 
 // A retouch, and what it leaves.
 fn print_retouch<'a>(
+    rt: &impl Print,
     counts: Counts,
     pents: &'a [u32],
     edges: &'a [u32],
@@ -265,7 +271,7 @@ fn print_retouch<'a>(
     sq_length: f64,
     deficits: &mut [f64],
     kinds: &mut [u8],
-) {
+) -> Result<()> {
     let outcome = retouch::retouch(
         counts,
         pents,
@@ -284,13 +290,14 @@ fn print_retouch<'a>(
         deficits,
         kinds,
     );
-    print_named(b"retouch", outcome.number() as u64);
-    print_end();
-    print_left(sq_lengths, deficits, kinds);
+    print_named(rt, b"retouch", outcome.number() as u64)?;
+    print_end(rt)?;
+    print_left(rt, sq_lengths, deficits, kinds)
 }
 
 // The retouches of a line.
 fn print_retouches<'a>(
+    rt: &impl Print,
     line: &'a [u8],
     counts: Counts,
     pents: &'a [u32],
@@ -306,9 +313,10 @@ fn print_retouches<'a>(
     sq_lengths: &mut [f64],
     deficits: &mut [f64],
     kinds: &mut [u8],
-) {
+) -> Result<()> {
     for i in 0..retouches_of(line) {
         print_retouch(
+            rt,
             counts,
             pents,
             edges,
@@ -325,12 +333,14 @@ fn print_retouches<'a>(
             sq_length_of(line, i),
             deficits,
             kinds,
-        );
+        )?;
     }
+    Ok(())
 }
 
 // The answers to a line on these lists, lengths and table, which is worked out and changed first.
 fn print_all<'a>(
+    rt: &impl Print,
     line: &'a [u8],
     counts: Counts,
     pents: &'a [u32],
@@ -346,7 +356,7 @@ fn print_all<'a>(
     sq_lengths: &mut [f64],
     deficits: &mut [f64],
     kinds: &mut [u8],
-) {
+) -> Result<()> {
     let place = size_at(line, 10);
     work_out(
         line,
@@ -368,6 +378,7 @@ fn print_all<'a>(
     put_deficit(deficits, place, floats::of_bits(number_at(line, 11)));
     put_kind(kinds, place, (number_at(line, 12) % 256) as u8);
     print_retouches(
+        rt,
         line,
         counts,
         pents,
@@ -383,11 +394,12 @@ fn print_all<'a>(
         sq_lengths,
         deficits,
         kinds,
-    );
+    )
 }
 
 // The answers to a line on these lists.
 fn print_calls<'a>(
+    rt: &impl Print,
     line: &'a [u8],
     counts: Counts,
     pents: &'a [u32],
@@ -400,7 +412,7 @@ fn print_calls<'a>(
     edge_to_tris_starts: &'a [u32],
     edge_to_pents_items: &'a [u32],
     edge_to_pents_starts: &'a [u32],
-) {
+) -> Result<()> {
     let lengths = lengths_of(line);
     let deficits_room = deficits_of(line);
     let kinds_room = kinds_of(line);
@@ -408,6 +420,7 @@ fn print_calls<'a>(
     let mut deficits = [floats::of_bits(50000); 100];
     let mut kinds = [100u8; 100];
     print_all(
+        rt,
         line,
         counts,
         pents,
@@ -423,7 +436,7 @@ fn print_calls<'a>(
         &mut sq_lengths[..lengths],
         &mut deficits[..deficits_room],
         &mut kinds[..kinds_room],
-    );
+    )
 }
 
 // ---- calls on records
@@ -472,6 +485,7 @@ fn records_of<'a>(
 
 // A retouch of a table of records, and what it leaves: the first records are printed.
 fn print_record_retouch<'a>(
+    rt: &impl Print,
     counts: Counts,
     pents: &'a [u32],
     edges: &'a [u32],
@@ -488,7 +502,7 @@ fn print_record_retouch<'a>(
     sq_length: f64,
     table: Records,
     shown: usize,
-) -> Records
+) -> Result<Records>
     requires { shown ≤ 100 }
 {
     let answer = hinge_table::retouch_array(
@@ -512,14 +526,15 @@ fn print_record_retouch<'a>(
     let left = answer.table;
     let deficits = deficits_in(left);
     let kinds = kinds_in(left);
-    print_named(b"records", outcome.number() as u64);
-    print_end();
-    print_left(sq_lengths, &deficits[..shown], &kinds[..shown]);
-    left
+    print_named(rt, b"records", outcome.number() as u64)?;
+    print_end(rt)?;
+    print_left(rt, sq_lengths, &deficits[..shown], &kinds[..shown])?;
+    Ok(left)
 }
 
 // The retouches of a line on a table of records.
 fn print_record_retouches<'a>(
+    rt: &impl Print,
     line: &'a [u8],
     counts: Counts,
     pents: &'a [u32],
@@ -534,11 +549,12 @@ fn print_record_retouches<'a>(
     edge_to_pents_starts: &'a [u32],
     sq_lengths: &mut [f64],
     first: Records,
-) {
+) -> Result<()> {
     let mut table = first;
     let shown = deficits_of(line);
     for i in 0..retouches_of(line) {
         let left = print_record_retouch(
+            rt,
             counts,
             pents,
             edges,
@@ -555,13 +571,15 @@ fn print_record_retouches<'a>(
             sq_length_of(line, i),
             table,
             shown,
-        );
+        )?;
         table = left;
     }
+    Ok(())
 }
 
 // The answers to a line on these lists and a table of records.
 fn print_records<'a>(
+    rt: &impl Print,
     line: &'a [u8],
     counts: Counts,
     pents: &'a [u32],
@@ -574,7 +592,7 @@ fn print_records<'a>(
     edge_to_tris_starts: &'a [u32],
     edge_to_pents_items: &'a [u32],
     edge_to_pents_starts: &'a [u32],
-) {
+) -> Result<()> {
     let lengths = lengths_of(line);
     let mut sq_lengths = sq_lengths_of(line);
     let table = records_of(
@@ -593,6 +611,7 @@ fn print_records<'a>(
         &sq_lengths[..lengths],
     );
     print_record_retouches(
+        rt,
         line,
         counts,
         pents,
@@ -607,13 +626,14 @@ fn print_records<'a>(
         edge_to_pents_starts,
         &mut sq_lengths[..lengths],
         with_record(table, size_at(line, 10), record_of(line)),
-    );
+    )
 }
 
 // ---- complexes
 
 // The answers to a line on these lists, if they were built.
 fn print_answers<'a>(
+    rt: &impl Print,
     line: &'a [u8],
     built: Built,
     pents: &'a List,
@@ -626,11 +646,12 @@ fn print_answers<'a>(
     edge_to_tris_starts: &'a List,
     edge_to_pents_items: &'a List,
     edge_to_pents_starts: &'a List,
-) {
+) -> Result<()> {
     if let Built::Done(counts) = built {
         let mut given = counts;
         given.vertices = size_at(line, 1);
         print_calls(
+            rt,
             line,
             given,
             pents,
@@ -643,8 +664,9 @@ fn print_answers<'a>(
             edge_to_tris_starts,
             edge_to_pents_items,
             edge_to_pents_starts,
-        );
+        )?;
         print_records(
+            rt,
             line,
             given,
             pents,
@@ -657,12 +679,13 @@ fn print_answers<'a>(
             edge_to_tris_starts,
             edge_to_pents_items,
             edge_to_pents_starts,
-        );
+        )?;
     }
+    Ok(())
 }
 
 // The answers to a line whose pentachorons are given.
-fn print_given(line: &[u8], given: &[u32]) {
+fn print_given(rt: &impl Print, line: &[u8], given: &[u32]) -> Result<()> {
     let mut pents = [0; 240];
     let mut edges = [0; 240];
     let mut triangles = [0; 240];
@@ -689,6 +712,7 @@ fn print_given(line: &[u8], given: &[u32]) {
     );
     put(&mut edge_to_pents_items, size_at(line, 8), word_at(line, 9));
     print_answers(
+        rt,
         line,
         built,
         &pents,
@@ -701,33 +725,34 @@ fn print_given(line: &[u8], given: &[u32]) {
         &edge_to_tris_starts,
         &edge_to_pents_items,
         &edge_to_pents_starts,
-    );
+    )
 }
 
 // ---- the text
 
 // The answers to the line that starts at `at`, and where the next line starts.
-fn print_line(text: &[u8], at: usize) -> usize
+fn print_line(rt: &impl Print, text: &[u8], at: usize) -> Result<usize>
     requires { at < length text.now }
-    ensures { at < result }
+    ensures { IfOk result (λ next. at < next) }
 {
     let line = &text[at..];
     let given = given_of(line);
     let vertices = vertices_of(line);
-    print_given(line, &given[..vertices]);
-    at + 17 * (retouches_at(line) + 2 * retouches_of(line))
+    print_given(rt, line, &given[..vertices])?;
+    Ok(at + 17 * (retouches_at(line) + 2 * retouches_of(line)))
 }
 
 // The answers to each line of the text.
-fn print_lines(text: &[u8]) {
+fn print_lines(rt: &impl Print, text: &[u8]) -> Result<()> {
     let mut at = 0;
     while at < text.len() {
-        at = print_line(text, at);
+        at = print_line(rt, text, at)?;
     }
+    Ok(())
 }
 
-fn main() {
-    let mut text = io::large_buffer();
-    let n = io::read_full(STDIN_FILENO, &mut text);
-    print_lines(&text[..n]);
+fn main(rt: HostRuntime) -> Result<()> {
+    let mut text = Vec::new(rt.alloc());
+    rt.stdin().take(65536).read_to_end(&mut text)?;
+    print_lines(&rt, &text)
 }

@@ -6,86 +6,88 @@ ghost use Rattle.std.specs.Prelude.{◌≤◌, length};
 
 use complex::{Built, Counts};
 use length_signs::LengthSigns;
-use libc::{STDIN_FILENO, STDOUT_FILENO};
 use printing::{print_double, print_end, print_named, print_number};
 use refusals::Refusal;
 use report::evaluate;
+use std::io::{Read, Result};
 
 // ---- lines
 
 // The number and the place of a refusal.
-fn print_refusal(refusal: Refusal) {
-    print_named(b"refused", refusal.number() as u64);
-    print_number(refusal.place() as u64);
-    print_end();
+fn print_refusal(rt: &impl Print, refusal: Refusal) -> Result<()> {
+    print_named(rt, b"refused", refusal.number() as u64)?;
+    print_number(rt, refusal.place() as u64)?;
+    print_end(rt)
 }
 
 // How many edges, triangles and tets there are.
-fn print_counts(counts: Counts) {
-    print_named(b"edges", counts.edges as u64);
-    print_named(b" triangles", counts.triangles as u64);
-    print_named(b" tets", counts.tets as u64);
-    print_end();
+fn print_counts(rt: &impl Print, counts: Counts) -> Result<()> {
+    print_named(rt, b"edges", counts.edges as u64)?;
+    print_named(rt, b" triangles", counts.triangles as u64)?;
+    print_named(rt, b" tets", counts.tets as u64)?;
+    print_end(rt)
 }
 
 // How many squared lengths are timelike, null and spacelike.
-fn print_signs(signs: LengthSigns) {
-    print_named(b"timelike", signs.timelike as u64);
-    print_named(b" null", signs.null as u64);
-    print_named(b" spacelike", signs.spacelike as u64);
-    print_end();
+fn print_signs(rt: &impl Print, signs: LengthSigns) -> Result<()> {
+    print_named(rt, b"timelike", signs.timelike as u64)?;
+    print_named(rt, b" null", signs.null as u64)?;
+    print_named(rt, b" spacelike", signs.spacelike as u64)?;
+    print_end(rt)
 }
 
 // The letter of a kind's byte.
-fn print_kind(kind: u8) {
+fn print_kind(rt: &impl Print, kind: u8) -> Result<()> {
     if kind == 0 {
-        io::write_all(STDOUT_FILENO, b" S");
+        rt.write_all(b" S")
     } else {
-        io::write_all(STDOUT_FILENO, b" T");
+        rt.write_all(b" T")
     }
 }
 
 // The hinges: number, kind and deficit.
-fn print_hinges<'a>(deficits: &'a [f64], kinds: &'a [u8])
+fn print_hinges<'a>(rt: &impl Print, deficits: &'a [f64], kinds: &'a [u8]) -> Result<()>
     requires { length deficits.now ≤ length kinds.now }
 {
     for i in 0..deficits.len() {
-        print_named(b"hinge", i as u64);
-        print_kind(kinds[i]);
-        print_double(deficits[i]);
-        print_end();
+        print_named(rt, b"hinge", i as u64)?;
+        print_kind(rt, kinds[i])?;
+        print_double(rt, deficits[i])?;
+        print_end(rt)?;
     }
+    Ok(())
 }
 
 // The gradient: number of the edge and entry.
-fn print_gradient(grad: &[f64]) {
+fn print_gradient(rt: &impl Print, grad: &[f64]) -> Result<()> {
     for i in 0..grad.len() {
-        print_named(b"grad", i as u64);
-        print_double(grad[i]);
-        print_end();
+        print_named(rt, b"grad", i as u64)?;
+        print_double(rt, grad[i])?;
+        print_end(rt)?;
     }
+    Ok(())
 }
 
 // ---- the program
 
 // The longest input that is not refused has 5,604 bytes, so that a longer one is refused by its beginning.
-fn main() {
-    let mut buffer = [0u8; 8192];
-    let len = io::read_full(STDIN_FILENO, &mut buffer);
-    let report = evaluate(&buffer[..len]);
+fn main(rt: HostRuntime) -> Result<()> {
+    let mut input = Vec::new(rt.alloc());
+    rt.stdin().take(8192).read_to_end(&mut input)?;
+    let report = evaluate(&input);
     let answer = report.answer;
     let deficits = report.deficits;
     let kinds = report.kinds;
     let grad = report.grad;
     match answer {
-        Built::Refused(refusal) => print_refusal(refusal),
+        Built::Refused(refusal) => print_refusal(&rt, refusal),
         Built::Done(counts) => {
-            print_counts(counts);
-            print_signs(report.signs);
+            print_counts(&rt, counts)?;
+            print_signs(&rt, report.signs)?;
             let n_tris = counts.triangles;
             let n_edges = counts.edges;
-            print_hinges(&deficits[..n_tris], &kinds[..n_tris]);
-            print_gradient(&grad[..n_edges]);
+            print_hinges(&rt, &deficits[..n_tris], &kinds[..n_tris])?;
+            print_gradient(&rt, &grad[..n_edges])
         }
     }
 }

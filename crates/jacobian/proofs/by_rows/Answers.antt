@@ -21,11 +21,11 @@ loop-i-preserved c =
     let i = c.loop-i.i in
     let rows = c.loop-i.rows in
     let inv = c.loop-i.invariant in
-    (simp add-one (table-next i (entry_of c.args.t1) rows (omega arith) inv.0), omega arith, simp length-set inv.2)
+    (simp add-one (table-next i (entry_of c.args.columns) rows (omega arith) inv.0), omega arith, simp length-set inv.2)
 
 pub returns : goal.returns
 returns c =
     let inv = c.loop-i.invariant in
     let whole : c.loop-i.i ≡ 100 = omega arith in
-    let all : take 100 c.loop-i.rows ≡ table 100 (entry_of c.args.t1) = (rw whole at inv).0 in
+    let all : take 100 c.loop-i.rows ≡ table 100 (entry_of c.args.columns) = (rw whole at inv).0 in
     sym (take_all 100 c.loop-i.rows (omega arith)) ∙ all

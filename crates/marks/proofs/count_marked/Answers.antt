@@ -1,7 +1,6 @@
 -- `marks::count_marked` meets its contract. Assumes nothing.
 use Prim.Native.Nat.{◌-◌}
 use mathlib.Core.List.{[], ◌∷◌}
-use mathlib.Core.Logic.{⊎_elim}
 use mathlib.Core.Path.{◌≡◌, refl, sym, ap, ◌∙◌}
 use native.Mathlib.Omega.{arith}
 use lib.ListN.{length, length-append}
@@ -9,6 +8,7 @@ use borrow.Author.Tests.{eq-eqb, ne_eqb}
 use Rattle.lists.specs.Lists.{keep, upto}
 use Rattle.marks.specs.Marks.{marked_below}
 use Rattle.marks.proofs.Marking.{marked-here, marked-past, marked-most}
+use Rattle.marks.proofs.count_marked.Goals.{then-marks-t-eq1, else-marks-t-eq1}
 use Rattle.marks.proofs.count_marked.Goals as goal
 
 pub loop-t-init : goal.loop-t-init
@@ -23,10 +23,10 @@ loop-t-preserved c =
     let M = c.args.marks.now in
     let l = c.loop-t in (
       omega arith,
-      ⊎_elim
-          (λ w. omega (arith, w.1, l.invariant.1, ap length (marked-here M l.t (eq-eqb _ _ w.0.taken)), length-append (marked_below l.t M) (l.t ∷ [])))
-          (λ w. w.1 ∙ l.invariant.1 ∙ ap length (sym (marked-past M l.t (ne_eqb _ _ w.0.left))))
-          c.if-marks-t-eq1.branch,
+      elim c.if-marks-t-eq1.branch [
+        | then-marks-t-eq1 w ↦ omega (arith, w.count-is, l.invariant.1, ap length (marked-here M l.t (eq-eqb _ _ w.if-marks-t-eq1.true)), length-append (marked_below l.t M) (l.t ∷ []))
+        | else-marks-t-eq1 w ↦ w.count-is ∙ l.invariant.1 ∙ ap length (sym (marked-past M l.t (ne_eqb _ _ w.if-marks-t-eq1.false)))
+      ],
     )
 
 pub returns : goal.returns

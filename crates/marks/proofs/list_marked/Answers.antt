@@ -1,7 +1,6 @@
 -- `marks::list_marked` meets its contract. Assumes nothing.
 use Prim.Native.Nat.{◌-◌}
 use mathlib.Core.List.{[], ◌∷◌}
-use mathlib.Core.Logic.{⊎_elim}
 use mathlib.Core.Path.{◌≡◌, refl, sym, ap, ◌∙◌}
 use native.Mathlib.Omega.{arith}
 use lib.ListN.{length, length-append, length-set}
@@ -11,6 +10,7 @@ use Rattle.lists.specs.Rows.{over}
 use Rattle.lists.proofs.Rows.{front-turn}
 use Rattle.marks.specs.Marks.{marked_below}
 use Rattle.marks.proofs.Marking.{marked-here, marked-past, marked-room, marked-most}
+use Rattle.marks.proofs.list_marked.Goals.{then-marks-t-eq1, else-marks-t-eq1}
 use Rattle.marks.proofs.list_marked.Goals as goal
 
 pub loop-t-init : goal.loop-t-init
@@ -31,19 +31,19 @@ loop-t-preserved c =
     let a = c.args in
     let M = a.marks.now in
     let l = c.loop-t in
-    ⊎_elim
-    (λ w.
-    let here = marked-here M l.t (eq-eqb _ _ w.0.taken) in
-    let room = marked-room M l.t a.n c.loop-t-test.true (eq-eqb _ _ w.0.taken) in (
-      omega arith,
-      omega (arith, w.2, l.invariant.1, ap length here, length-append (marked_below l.t M) (l.t ∷ [])),
-      rw w.1 (length-set l.list l.count l.t ∙ l.invariant.2),
-      rw (w.1, w.2, here) (front-turn (marked_below l.t M) l.t a.list.now l.list l.count (sym l.invariant.1) (omega (arith, room, l.invariant.1, c.requires.2)) l.invariant.2 l.invariant.3),
-    ))
-    (λ w.
-    let past = marked-past M l.t (ne_eqb _ _ w.0.left) in
-    (omega arith, w.2 ∙ l.invariant.1 ∙ ap length (sym past), rw w.1 l.invariant.2, rw (w.1, w.2, past) l.invariant.3))
-    c.if-marks-t-eq1.branch
+    elim c.if-marks-t-eq1.branch [
+      | then-marks-t-eq1 w ↦
+          let here = marked-here M l.t (eq-eqb _ _ w.if-marks-t-eq1.true) in
+          let room = marked-room M l.t a.n c.loop-t-test.true (eq-eqb _ _ w.if-marks-t-eq1.true) in (
+            omega arith,
+            omega (arith, w.count-is, l.invariant.1, ap length here, length-append (marked_below l.t M) (l.t ∷ [])),
+            rw w.list-is (length-set l.list l.count l.t ∙ l.invariant.2),
+            rw (w.list-is, w.count-is, here) (front-turn (marked_below l.t M) l.t a.list.now l.list l.count (sym l.invariant.1) (omega (arith, room, l.invariant.1, c.requires.2)) l.invariant.2 l.invariant.3),
+          )
+      | else-marks-t-eq1 w ↦
+          let past = marked-past M l.t (ne_eqb _ _ w.if-marks-t-eq1.false) in
+          (omega arith, w.count-is ∙ l.invariant.1 ∙ ap length (sym past), rw w.list-is l.invariant.2, rw (w.list-is, w.count-is, past) l.invariant.3)
+    ]
 
 pub shape_of-list : goal.shape_of-list
 shape_of-list c = c.loop-t.invariant.2

@@ -10,24 +10,24 @@ use Rattle.packed_input.proofs.decode_complex.Goals as goal
 pub number-n_vertices-requires : goal.number-n_vertices-requires
 number-n_vertices-requires c =
     let a = c.args in
-    let h = header-says a.input.now (sym c.check_header.ensures ∙ c.enum_told-1.given.1) in
+    let h = header-says a.input.now (sym c.check_header.ensures ∙ c.in-Done.is) in
     (omega arith, omega arith, omega arith)
 
 pub number-n_pents-requires : goal.number-n_pents-requires
 number-n_pents-requires c =
     let a = c.args in
-    let h = header-says a.input.now (sym c.check_header.ensures ∙ c.enum_told-1.given.1) in
+    let h = header-says a.input.now (sym c.check_header.ensures ∙ c.in-Done.is) in
     (omega arith, omega arith, omega arith)
 
 pub read_vertices-requires : goal.read_vertices-requires
 read_vertices-requires c =
     let a = c.args in
-    let h = header-says a.input.now (sym c.check_header.ensures ∙ c.enum_told-1.given.1) in
+    let h = header-says a.input.now (sym c.check_header.ensures ∙ c.in-Done.is) in
     (omega arith, omega arith, omega arith)
 
 pub slice_bounds-given-end : goal.slice_bounds-given-end
 slice_bounds-given-end c =
-    let h = header-says c.args.input.now (sym c.check_header.ensures ∙ c.enum_told-1.given.1) in
+    let h = header-says c.args.input.now (sym c.check_header.ensures ∙ c.in-Done.is) in
     omega (arith, c.read_vertices.auto.given)
 
 pub slice_bounds-from_pentachorons-end : goal.slice_bounds-from_pentachorons-end
@@ -38,7 +38,7 @@ slice_bounds-from_pentachorons-end c =
 
 pub returns-in-Refused : goal.returns-in-Refused
 returns-in-Refused c =
-    let e = header-decides c.args.input.now _ (sym c.check_header.ensures ∙ c.refusal-1.given.1) in
+    let e = header-decides c.args.input.now _ (sym c.check_header.ensures ∙ c.in-Refused.is) in
     record {
       value = rw e refl;
       edge_to_pents_starts_after = rw e refl;
@@ -47,6 +47,7 @@ returns-in-Refused c =
 pub returns-in-Done : goal.returns-in-Done
 returns-in-Done c =
     let a = c.args in
-    let h = sym c.check_header.ensures ∙ c.enum_told-1.given.1 in
+    let h = sym c.check_header.ensures ∙ c.in-Done.is in
     let g = vertices-front a.input.now _ _ _ c.number-n_pents.ensures.0 c.read_vertices.ensures in
-    builder-answers a.input.now _ _ _ _ _ h c.number-n_vertices.ensures.0 g c.requires c.from_pentachorons.ensures
+    let b = builder-answers a.input.now _ _ _ _ _ h c.number-n_vertices.ensures.0 g c.requires c.from_pentachorons.ensures in
+    record { value = b.0; edge_to_pents_starts_after = b.1 }

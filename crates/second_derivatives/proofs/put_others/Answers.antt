@@ -20,12 +20,12 @@ unfolding placed off_diagonal nine_adds keep gather upto
 returns c =
     let a = c.args in
     six_scatters nan before
-    (placed_in a.n (get_or a.t2 0 0) (get_or a.t2 1 0) (area_second a.s a.area 0 1 ⊗ a.deficit))
-    (placed_in a.n (get_or a.t2 0 0) (get_or a.t2 2 0) (area_second a.s a.area 0 2 ⊗ a.deficit))
-    (placed_in a.n (get_or a.t2 1 0) (get_or a.t2 0 0) (area_second a.s a.area 1 0 ⊗ a.deficit))
-    (placed_in a.n (get_or a.t2 1 0) (get_or a.t2 2 0) (area_second a.s a.area 1 2 ⊗ a.deficit))
-    (placed_in a.n (get_or a.t2 2 0) (get_or a.t2 0 0) (area_second a.s a.area 2 0 ⊗ a.deficit))
-    (placed_in a.n (get_or a.t2 2 0) (get_or a.t2 1 0) (area_second a.s a.area 2 1 ⊗ a.deficit))
+    (placed_in a.n (get_or a.at 0 0) (get_or a.at 1 0) (area_second a.s a.area 0 1 ⊗ a.deficit))
+    (placed_in a.n (get_or a.at 0 0) (get_or a.at 2 0) (area_second a.s a.area 0 2 ⊗ a.deficit))
+    (placed_in a.n (get_or a.at 1 0) (get_or a.at 0 0) (area_second a.s a.area 1 0 ⊗ a.deficit))
+    (placed_in a.n (get_or a.at 1 0) (get_or a.at 2 0) (area_second a.s a.area 1 2 ⊗ a.deficit))
+    (placed_in a.n (get_or a.at 2 0) (get_or a.at 0 0) (area_second a.s a.area 2 0 ⊗ a.deficit))
+    (placed_in a.n (get_or a.at 2 0) (get_or a.at 1 0) (area_second a.s a.area 2 1 ⊗ a.deficit))
     a.matrix.now c.put_before.new.matrix c.put_before-2.new.matrix c.put_before-3.new.matrix c.put_before-4.new.matrix c.put_before-5.new.matrix c.put_before-6.new.matrix
     (rw (← c.area_second.ensures) c.put_before.ensures)
     (rw (← c.area_second-2.ensures) c.put_before-2.ensures)

@@ -11,8 +11,8 @@ use Rattle.fdlibm.proofs.s_asinh.asinh.Goals.{Joined-else-ix-lt1043333120, else-
 not-tiny : (c : Joined-else-ix-lt1043333120) → (ltb (ix_of c.args.x) 0x3e30_0000 && lt one (huge ⊕ c.args.x)) ≡ false
 not-tiny c =
     elim c.else-ix-lt1043333120.branch [
-      else-ix-lt1043333120-via-then-ix-lt1043333120+else-x w ↦ search (tests, w.if-x.false, ← c.high_word-hx.ensures)
-    | else-ix-lt1043333120-via-else-ix-lt1043333120 w ↦ search (tests, ← c.high_word-hx.ensures)
+      | else-ix-lt1043333120-via-then-ix-lt1043333120+else-x w ↦ search (tests, w.if-x.false, ← c.high_word-hx.ensures)
+      | else-ix-lt1043333120-via-else-ix-lt1043333120 w ↦ search (tests, ← c.high_word-hx.ensures)
     ]
 
 pub returns-then-ix-ge2146435072 : goal.returns-then-ix-ge2146435072

@@ -13,15 +13,15 @@ use Rattle.fdlibm.proofs.s_log1p.log1p.Goals.{Joined-else-x-2, Joined-then-int_l
 not-tiny : (c : Joined-else-x-2) → (lt zero (two54 ⊕ c.args.x) && ltb (ix_of c.args.x) 0x3c90_0000) ≡ false
 not-tiny c =
     elim c.else-x-2.branch [
-      else-x-2-via-then-x-2+else-ax-lt1016070144 w ↦ search (tests, w.if-x-2.true, w.if-ax-lt1016070144.false, ← c.high_word-hx.ensures)
-    | else-x-2-via-else-x-2 w ↦ search (tests, w.if-x-2.false)
+      | else-x-2-via-then-x-2+else-ax-lt1016070144 w ↦ search (tests, w.if-x-2.true, w.if-ax-lt1016070144.false, ← c.high_word-hx.ensures)
+      | else-x-2-via-else-x-2 w ↦ search (tests, w.if-x-2.false)
     ]
 
 central : (c : Joined-then-int_lt-2) → let h = high_word c.args.x in (0 <ˢ h || h ≤ˢ 0xbfd2_bec3) ≡ true
 central c =
     elim c.then-int_lt-2.branch [
-      then-int_lt-2-via-then-int_lt-2 w ↦ search (w.if-int_lt-2.true, ← c.int_lt-then-int_lt.ensures, ← c.high_word-hx.ensures)
-    | then-int_lt-2-via-else-int_lt-2+then-int_le w ↦ search (w.if-int_lt-2.false, w.if-int_le.true, ← w.int_le.ensures, ← c.int_lt-then-int_lt.ensures, ← c.high_word-hx.ensures)
+      | then-int_lt-2-via-then-int_lt-2 w ↦ search (w.if-int_lt-2.true, ← c.int_lt-then-int_lt.ensures, ← c.high_word-hx.ensures)
+      | then-int_lt-2-via-else-int_lt-2+then-int_le w ↦ search (w.if-int_lt-2.false, w.if-int_le.true, ← w.int_le.ensures, ← c.int_lt-then-int_lt.ensures, ← c.high_word-hx.ensures)
     ]
 
 pub returns-then-x : goal.returns-then-x

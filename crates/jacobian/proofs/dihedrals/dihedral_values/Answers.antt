@@ -12,7 +12,7 @@ use Rattle.jacobian.proofs.dihedrals.dihedral_values.Goals as goal
 pub returns : goal.returns
 unfolding table
 returns c =
-    let d = c.args.t1 in
+    let d = c.args.d in
     let ten : length d ≡ 10 = search rules in
     rw (
       c.value.ensures,
