@@ -9,7 +9,6 @@ use Rattle.complex.specs.Builder.{Lists, too_large, repeats}
 use Rattle.complex.specs.Check.{pents_in, is_built, written_after}
 use Rattle.comparison.specs.Parts.{Noted}
 use Rattle.calls.specs.declared.LocalAnswer.{LocalAnswer}
-use Rattle.calls.specs.declared.LocalAnswer.TheVariants as LocalAnswer
 
 -- ---- what a core asks
 

@@ -191,9 +191,12 @@ module _ {X : Type 0} (x : X) where
       next : o + suc k ≡ o + 1 + k
       next = omega arith
 
+      moved : hits (o + 1 + k) (map (λ i. (i, x)) r) ≡ hits (get_or ys k 0) ((t, x) ∷ []) → hits (o + suc k) (map (λ i. (i, x)) r) ≡ hits (get_or ys k 0) ((t, x) ∷ [])
+      moved = subst (λ (n : ℕ). hits n (map (λ i. (i, x)) r) ≡ hits (get_or ys k 0) ((t, x) ∷ [])) (sym next)
+
       go : (b : Bool) → hits (o + 1 + k) (map (λ i. (i, x)) r) ≡ hits (get_or ys k 0) ((t, x) ∷ []) → hits (o + suc k) (map (λ i. (i, x)) (cond b (o ∷ r) r)) ≡ hits (get_or ys k 0) ((t, x) ∷ [])
-      go true e = rw (ne_eqb o (o + suc k) (λ q. omega arith), next) e
-      go false e = rw next e
+      go true e = rw (ne_eqb o (o + suc k) (λ q. omega arith)) (moved e)
+      go false e = moved e
 
 -- the events at place k of the free edges are those of the edge there
 pub hits-free : (free : List ℕ) (k : ℕ) → k < length free → (es : List (ℕ × Float)) → hits k (at_free free es) ≡ hits (get_or free k 0) es

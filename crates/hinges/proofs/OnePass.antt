@@ -1,6 +1,6 @@
 -- The hinges of one pass over the pentachorons are those of each triangle by itself. Assumes nothing.
 -- The pentachorons of a triangle ascend: `holding-rising` (complex, Laws).
-use Prim.Native.Nat.{ℕ, zero, ◌<◌}
+use Prim.Native.Nat.{ℕ, ◌<◌}
 use mathlib.Core.Path.{◌≡◌, refl, sym, ap, ◌∙◌, subst}
 use mathlib.Core.Bool.{Bool, not, cond}
 use mathlib.Core.List.{List, [], ◌∷◌, map, reverse, Memᴰ}

@@ -22,4 +22,4 @@ loop-q-preserved c =
     (w.0, omega arith, w.2, w.3)
 
 pub returns : goal.returns
-returns c = let w = c.loop-q.invariant in (omega arith, c.loop-q-test.false)
+returns c = (omega arith, c.loop-q-test.false)

@@ -28,12 +28,12 @@ loop-k-preserved c =
     let a = c.args in
     let l = c.loop-k in
     let f = c.add_dihedral in
-    let e = event a.tris.now a.t2 l.k in (
+    let e = event a.tris.now a.dihedrals l.k in (
       omega arith,
       f.auto.sums ∙ l.invariant.1,
       f.auto.kinds ∙ l.invariant.2,
-      f.ensures.0 ∙ ap (λ s. set s e.0 (plus (get_or s e.0 nan) e.1)) l.invariant.3 ∙ sym (rw (add-one l.k) (scatter-next nan plus (event a.tris.now a.t2) a.sums.now l.k)),
-      f.ensures.1 ∙ ap (λ s. set s e.0 (byte_of_first (get_or s e.0 0) e.1)) l.invariant.4 ∙ sym (rw (add-one l.k) (scatter-next 0 byte_of_first (event a.tris.now a.t2) a.kinds.now l.k)),
+      f.ensures.0 ∙ ap (λ s. set s e.0 (plus (get_or s e.0 nan) e.1)) l.invariant.3 ∙ sym (rw (add-one l.k) (scatter-next nan plus (event a.tris.now a.dihedrals) a.sums.now l.k)),
+      f.ensures.1 ∙ ap (λ s. set s e.0 (byte_of_first (get_or s e.0 0) e.1)) l.invariant.4 ∙ sym (rw (add-one l.k) (scatter-next 0 byte_of_first (event a.tris.now a.dihedrals) a.kinds.now l.k)),
     )
 
 pub shape_of-sums : goal.shape_of-sums

@@ -41,7 +41,6 @@ overflow_mul-count c =
 pub meet_rows-n-requires : goal.meet_rows-n-requires
 meet_rows-n-requires c =
     let a = c.args in
-    let p = c.requires in
     let f = a.face in
     let P = length a.pents.now / 5 in
     let width : c.width-w.result ≡ width_of f = c.width-w.ensures in

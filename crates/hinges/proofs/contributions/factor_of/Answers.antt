@@ -1,8 +1,8 @@
 -- `hinges::contributions::factor_of` meets its contract. Assumes nothing.
-use mathlib.Core.Logic.{⊎_elim}
 use Rattle.hinges.specs.Action.{factor_of}
+use Rattle.hinges.proofs.contributions.factor_of.Goals.{then-area_sq, else-area_sq}
 use Rattle.hinges.proofs.contributions.factor_of.Goals as goal
 
 pub returns : goal.returns
 unfolding factor_of
-returns c = ⊎_elim (λ w. rw (w.1, w.0.taken)) (λ w. rw (w.1, w.0.left)) c.if-area_sq.branch
+returns c = elim c.if-area_sq.branch [ then-area_sq w ↦ rw (w.sign-is, w.if-area_sq.true) | else-area_sq w ↦ rw (w.sign-is, w.if-area_sq.false) ]

@@ -1,5 +1,5 @@
 -- `hinges::dihedrals::pent_sq_lengths` meets its contract. Assumes nothing.
-use Prim.Native.Nat.{ℕ, ◌-◌}
+use Prim.Native.Nat.{ℕ}
 use mathlib.Core.Path.{◌≡◌, refl, sym, ap, ◌∙◌}
 use mathlib.Core.List.{◌++◌, map, append-nil}
 use native.Mathlib.Numerals.{add-one}

@@ -39,7 +39,6 @@ loop-cur-init c =
 pub overflow_mul-w : goal.overflow_mul-w
 overflow_mul-w c =
     let a = c.args in
-    let p = c.requires in
     let many : length (rows (length a.row.now) a.n a.list.now) ≡ a.n = length-rows (length a.row.now) a.n a.list.now in
     let l = c.loop-cur in
     let h = row_below (length a.row.now) (l.cur - 1) a.n (omega arith) in
@@ -48,7 +47,6 @@ overflow_mul-w c =
 pub same_row-requires : goal.same_row-requires
 same_row-requires c =
     let a = c.args in
-    let p = c.requires in
     let many : length (rows (length a.row.now) a.n a.list.now) ≡ a.n = length-rows (length a.row.now) a.n a.list.now in
     let l = c.loop-cur in
     let h = row_below (length a.row.now) (l.cur - 1) a.n (omega arith) in

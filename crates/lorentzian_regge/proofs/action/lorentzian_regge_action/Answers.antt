@@ -1,7 +1,6 @@
 -- `lorentzian_regge::action::lorentzian_regge_action` meets its contract. Assumes nothing.
 use mathlib.Core.Path.{sym, ap, ◌∙◌}
 use lib.ListN.{length}
-use borrow.Author.Tests.{not-true, not-false}
 use Rattle.refusals.specs.declared.Outcome.TheVariants as Outcome
 use Rattle.complex.specs.Builder.{lists}
 use Rattle.comparison.proofs.Comparisons.{noted_of}
@@ -15,15 +14,15 @@ use Rattle.lorentzian_regge.proofs.action.lorentzian_regge_action.Goals as goal
 pub returns-then-not-is_built_noting : goal.returns-then-not-is_built_noting
 returns-then-not-is_built_noting c =
     let a = c.args in
-    ap (λ o. action_by o (action (faces_in a.counts a.pents.now a.edges.now a.triangles.now) a.sq_lengths.now)) (sym (not-built a.counts (lists a.pents.now a.edges.now a.triangles.now a.tets.now a.tri_to_pents_items.now a.tri_to_pents_starts.now a.edge_to_tris_items.now a.edge_to_tris_starts.now a.edge_to_pents_items.now a.edge_to_pents_starts.now) (lengths_check_of a.counts (length a.sq_lengths.now) Outcome.Done) (sym c.is_built_noting.ensures.value ∙ not-true c.is_built_noting.result c.if-not-is_built_noting.true)))
+    ap (λ o. action_by o (action (faces_in a.counts a.pents.now a.edges.now a.triangles.now) a.sq_lengths.now)) (sym (not-built a.counts (lists a.pents.now a.edges.now a.triangles.now a.tets.now a.tri_to_pents_items.now a.tri_to_pents_starts.now a.edge_to_tris_items.now a.edge_to_tris_starts.now a.edge_to_pents_items.now a.edge_to_pents_starts.now) (lengths_check_of a.counts (length a.sq_lengths.now) Outcome.Done) (sym c.is_built_noting.ensures.value ∙ c.if-not-is_built_noting.true)))
 
 pub lorentzian_regge_action_built-requires : goal.lorentzian_regge_action_built-requires
 lorentzian_regge_action_built-requires c =
-    let h = not-false c.is_built_noting.result c.if-not-is_built_noting.false in
+    let h = c.if-not-is_built_noting.false in
     record { built = sym c.is_built_noting.ensures.value ∙ h; noted = noted_of c.is_built_noting.ensures.noting h }
 
 pub returns : goal.returns
 returns c =
     let a = c.args in
-    let h = not-false c.is_built_noting.result c.if-not-is_built_noting.false in
+    let h = c.if-not-is_built_noting.false in
     c.lorentzian_regge_action_built.ensures ∙ ap (λ o. action_by o (action (faces_in a.counts a.pents.now a.edges.now a.triangles.now) a.sq_lengths.now)) (sym (others-decide a.counts (lists a.pents.now a.edges.now a.triangles.now a.tets.now a.tri_to_pents_items.now a.tri_to_pents_starts.now a.edge_to_tris_items.now a.edge_to_tris_starts.now a.edge_to_pents_items.now a.edge_to_pents_starts.now) (lengths_check_of a.counts (length a.sq_lengths.now) Outcome.Done) (sym c.is_built_noting.ensures.value ∙ h)))

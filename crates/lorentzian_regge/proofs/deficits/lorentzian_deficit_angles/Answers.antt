@@ -1,7 +1,6 @@
 -- `lorentzian_regge::deficits::lorentzian_deficit_angles` meets its contract. Assumes nothing.
 use mathlib.Core.Path.{refl, sym, ◌∙◌}
 use lib.ListN.{length}
-use borrow.Author.Tests.{not-true, not-false}
 use Rattle.complex.specs.Builder.{lists}
 use Rattle.comparison.proofs.Comparisons.{noted_of}
 use Rattle.calls.specs.Calls.{lengths_check_of, room_check_of, short_table}
@@ -11,16 +10,16 @@ use Rattle.lorentzian_regge.proofs.deficits.lorentzian_deficit_angles.Goals as g
 pub returns-then-not-is_built_noting : goal.returns-then-not-is_built_noting
 returns-then-not-is_built_noting c =
     let a = c.args in
-    record { answered = sym (not-built a.counts (lists a.pents.now a.edges.now a.triangles.now a.tets.now a.tri_to_pents_items.now a.tri_to_pents_starts.now a.edge_to_tris_items.now a.edge_to_tris_starts.now a.edge_to_pents_items.now a.edge_to_pents_starts.now) (lengths_check_of a.counts (length a.sq_lengths.now) (room_check_of (short_table a.counts (length a.deficits.now) (length a.kinds.now)))) (sym c.is_built_noting.ensures.value ∙ not-true c.is_built_noting.result c.if-not-is_built_noting.true)); deficits = refl; kinds = refl }
+    record { answered = sym (not-built a.counts (lists a.pents.now a.edges.now a.triangles.now a.tets.now a.tri_to_pents_items.now a.tri_to_pents_starts.now a.edge_to_tris_items.now a.edge_to_tris_starts.now a.edge_to_pents_items.now a.edge_to_pents_starts.now) (lengths_check_of a.counts (length a.sq_lengths.now) (room_check_of (short_table a.counts (length a.deficits.now) (length a.kinds.now)))) (sym c.is_built_noting.ensures.value ∙ c.if-not-is_built_noting.true)); deficits = refl; kinds = refl }
 
 pub lorentzian_deficit_angles_built-requires : goal.lorentzian_deficit_angles_built-requires
 lorentzian_deficit_angles_built-requires c =
-    let h = not-false c.is_built_noting.result c.if-not-is_built_noting.false in
+    let h = c.if-not-is_built_noting.false in
     record { built = sym c.is_built_noting.ensures.value ∙ h; noted = noted_of c.is_built_noting.ensures.noting h }
 
 pub returns : goal.returns
 returns c =
     let a = c.args in
-    let h = not-false c.is_built_noting.result c.if-not-is_built_noting.false in
+    let h = c.if-not-is_built_noting.false in
     let t = c.lorentzian_deficit_angles_built.ensures in
     record { answered = t.answered ∙ sym (others-decide a.counts (lists a.pents.now a.edges.now a.triangles.now a.tets.now a.tri_to_pents_items.now a.tri_to_pents_starts.now a.edge_to_tris_items.now a.edge_to_tris_starts.now a.edge_to_pents_items.now a.edge_to_pents_starts.now) (lengths_check_of a.counts (length a.sq_lengths.now) (room_check_of (short_table a.counts (length a.deficits.now) (length a.kinds.now)))) (sym c.is_built_noting.ensures.value ∙ h)); deficits = t.deficits; kinds = t.kinds }

@@ -18,20 +18,20 @@ use Rattle.lorentzian_regge.proofs.gradient.lorentzian_regge_action_grad_built.G
 pub write_table-requires : goal.write_table-requires
 write_table-requires c =
     let a = c.args in
-    let p = lengths-passed a.counts (length a.sq_lengths.now) (room_check_of (short_gradient a.counts (length a.grad.now))) (sym (c.check_lengths.ensures ∙ ap (lengths_check_of a.counts (length a.sq_lengths.now)) c.check_room.ensures) ∙ c.enum_told-1.given.1) in
+    let p = lengths-passed a.counts (length a.sq_lengths.now) (room_check_of (short_gradient a.counts (length a.grad.now))) (sym (c.check_lengths.ensures ∙ ap (lengths_check_of a.counts (length a.sq_lengths.now)) c.check_room.ensures) ∙ c.in-Done.is) in
     let m = built-measured a.counts (lists a.pents.now a.edges.now a.triangles.now a.tets.now a.tri_to_pents_items.now a.tri_to_pents_starts.now a.edge_to_tris_items.now a.edge_to_tris_starts.now a.edge_to_pents_items.now a.edge_to_pents_starts.now) a.pent_edges.now a.pent_tris.now (length a.sq_lengths.now) c.requires p.0 in
     (m.passable, scratch-room 81920 refl zero _ refl a.counts.triangles m.few, scratch-room {A = ℕ} 81920 refl 0 _ refl a.counts.triangles m.few)
 
 pub zero_all-requires : goal.zero_all-requires
 zero_all-requires c =
     let a = c.args in
-    let p = lengths-passed a.counts (length a.sq_lengths.now) (room_check_of (short_gradient a.counts (length a.grad.now))) (sym (c.check_lengths.ensures ∙ ap (lengths_check_of a.counts (length a.sq_lengths.now)) c.check_room.ensures) ∙ c.enum_told-1.given.1) in
+    let p = lengths-passed a.counts (length a.sq_lengths.now) (room_check_of (short_gradient a.counts (length a.grad.now))) (sym (c.check_lengths.ensures ∙ ap (lengths_check_of a.counts (length a.sq_lengths.now)) c.check_room.ensures) ∙ c.in-Done.is) in
     ltb-false (length a.grad.now) a.counts.edges (room-passed (short_gradient a.counts (length a.grad.now)) p.1)
 
 pub add_all_contributions-requires : goal.add_all_contributions-requires
 add_all_contributions-requires c =
     let a = c.args in
-    let p = lengths-passed a.counts (length a.sq_lengths.now) (room_check_of (short_gradient a.counts (length a.grad.now))) (sym (c.check_lengths.ensures ∙ ap (lengths_check_of a.counts (length a.sq_lengths.now)) c.check_room.ensures) ∙ c.enum_told-1.given.1) in
+    let p = lengths-passed a.counts (length a.sq_lengths.now) (room_check_of (short_gradient a.counts (length a.grad.now))) (sym (c.check_lengths.ensures ∙ ap (lengths_check_of a.counts (length a.sq_lengths.now)) c.check_room.ensures) ∙ c.in-Done.is) in
     let m = built-measured a.counts (lists a.pents.now a.edges.now a.triangles.now a.tets.now a.tri_to_pents_items.now a.tri_to_pents_starts.now a.edge_to_tris_items.now a.edge_to_tris_starts.now a.edge_to_pents_items.now a.edge_to_pents_starts.now) a.pent_edges.now a.pent_tris.now (length a.sq_lengths.now) c.requires p.0 in
     let r = scratch-room 81920 refl zero _ refl a.counts.triangles m.few in
     (m, omega (arith, r, c.write_table.auto.deficits), omega (arith, ltb-false (length a.grad.now) a.counts.edges (room-passed (short_gradient a.counts (length a.grad.now)) p.1), c.zero_all.auto.list))
@@ -39,12 +39,12 @@ add_all_contributions-requires c =
 pub returns-in-Refused : goal.returns-in-Refused
 returns-in-Refused c =
     let a = c.args in
-    record { answered = sym (sym (c.check_lengths.ensures ∙ ap (lengths_check_of a.counts (length a.sq_lengths.now)) c.check_room.ensures) ∙ c.refusal-1.given.1); entries = refl }
+    record { answered = sym (sym (c.check_lengths.ensures ∙ ap (lengths_check_of a.counts (length a.sq_lengths.now)) c.check_room.ensures) ∙ c.in-Refused.is); entries = refl }
 
 pub returns-in-Done : goal.returns-in-Done
 returns-in-Done c =
     let a = c.args in
-    let e = sym (c.check_lengths.ensures ∙ ap (lengths_check_of a.counts (length a.sq_lengths.now)) c.check_room.ensures) ∙ c.enum_told-1.given.1 in
+    let e = sym (c.check_lengths.ensures ∙ ap (lengths_check_of a.counts (length a.sq_lengths.now)) c.check_room.ensures) ∙ c.in-Done.is in
     let p = lengths-passed a.counts (length a.sq_lengths.now) (room_check_of (short_gradient a.counts (length a.grad.now))) e in
     let m = built-measured a.counts (lists a.pents.now a.edges.now a.triangles.now a.tets.now a.tri_to_pents_items.now a.tri_to_pents_starts.now a.edge_to_tris_items.now a.edge_to_tris_starts.now a.edge_to_pents_items.now a.edge_to_pents_starts.now) a.pent_edges.now a.pent_tris.now (length a.sq_lengths.now) c.requires p.0 in
     let t = c.write_table in

@@ -5,8 +5,8 @@ use Rattle.hinges.proofs.hinge.KindByte.or_kind_of.Goals as goal
 
 pub returns-in-Kind : goal.returns-in-Kind
 unfolding first
-returns-in-Kind c = rw c.self-1.given.1 refl
+returns-in-Kind c = rw c.in-Kind.is refl
 
 pub returns-in-NoKind : goal.returns-in-NoKind
 unfolding first
-returns-in-NoKind c = rw (c.enum_told-1.given.1, c.kind-own.ensures) refl
+returns-in-NoKind c = rw (c.in-NoKind.is, c.kind-own.ensures) refl
