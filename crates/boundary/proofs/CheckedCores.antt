@@ -1,6 +1,6 @@
 -- What a caller of the cores holds: a complex that `check_built` has accepted, with the numbers that it wrote, is what a core asks for. Assumes nothing.
 use Prim.Native.Nat.{ℕ}
-use mathlib.Core.Path.{◌≡◌, sym, ap, ◌∙◌}
+use mathlib.Core.Path.{◌≡◌, sym}
 use mathlib.Core.Bool.{true, not}
 use mathlib.Core.List.{List}
 use borrow.Author.Tests.{not-false}

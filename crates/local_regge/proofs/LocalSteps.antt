@@ -34,7 +34,6 @@ use Rattle.hinges.specs.Parts.{Measured}
 use Rattle.hinges.proofs.OnePass.{length-hinges}
 use Rattle.hinges.proofs.LocalEntries.{entries_local}
 use Rattle.calls.specs.declared.LocalAnswer.{LocalAnswer}
-use Rattle.calls.specs.declared.LocalAnswer.TheVariants as LocalAnswer
 use Rattle.calls.specs.Calls.{BuiltWith, lengths_check_of, free_check_of}
 use Rattle.calls.proofs.BuiltCalls.{not-large-below, built-measured, most-edges, lengths-passed, done-not-refused}
 use Rattle.local_regge.specs.LocalCalls.{LocallyTabled}

@@ -1,7 +1,6 @@
 -- `local_regge::local_deficits::local_deficit_angles` meets its contract. Assumes nothing.
 use mathlib.Core.Path.{sym, ◌∙◌}
 use lib.ListN.{length}
-use borrow.Author.Tests.{not-true, not-false}
 use Rattle.complex.specs.Builder.{lists}
 use Rattle.comparison.proofs.Comparisons.{noted_of}
 use Rattle.hinges.specs.Hinges.{faces_in}
