@@ -11,9 +11,7 @@ use Rattle.hinges.specs.Hinges.{FaceLists, hinges, deficits_of, kinds_of}
 use Rattle.hinges.specs.Action.{gradient}
 use Rattle.calls.specs.Calls.{Filled}
 use Rattle.lorentzian_regge.specs.declared.deficits.HingeAnswer.{HingeAnswer}
-use Rattle.lorentzian_regge.specs.declared.deficits.HingeAnswer.TheVariants as HingeAnswer
 use Rattle.lorentzian_regge.specs.declared.action.ActionAnswer.{ActionAnswer}
-use Rattle.lorentzian_regge.specs.declared.action.ActionAnswer.TheVariants as ActionAnswer
 
 -- ---- refusals
 

@@ -1,5 +1,4 @@
 -- `second_derivatives::index_of` meets its contract. Assumes nothing.
-use Prim.Native.Nat.{◌-◌}
 use native.Mathlib.Omega.{arith}
 use Rattle.second_derivatives.proofs.Placing.{index-here, index-next, index-none}
 use Rattle.second_derivatives.proofs.index_of.Goals as goal
