@@ -1,7 +1,6 @@
 -- `retouch::retouch` meets its contract. Assumes nothing.
 use mathlib.Core.Path.{refl, sym, ◌∙◌}
 use lib.ListN.{length}
-use borrow.Author.Tests.{not-true, not-false}
 use Rattle.complex.specs.Builder.{lists}
 use Rattle.comparison.proofs.Comparisons.{noted_of}
 use Rattle.calls.specs.Calls.{lengths_check_of, room_check_of, short_table}
@@ -14,7 +13,7 @@ returns-then-not-is_built_noting c =
     let a = c.args in
     record {
       answered =
-          sym (not-built a.counts (lists a.pents.now a.edges.now a.triangles.now a.tets.now a.tri_to_pents_items.now a.tri_to_pents_starts.now a.edge_to_tris_items.now a.edge_to_tris_starts.now a.edge_to_pents_items.now a.edge_to_pents_starts.now) (lengths_check_of a.counts (length a.sq_lengths.now) (edge_check_of a.counts a.edge.0 (room_check_of (short_table a.counts (length a.deficits.now) (length a.kinds.now))))) (sym c.is_built_noting.ensures.value ∙ not-true c.is_built_noting.result c.if-not-is_built_noting.true));
+          sym (not-built a.counts (lists a.pents.now a.edges.now a.triangles.now a.tets.now a.tri_to_pents_items.now a.tri_to_pents_starts.now a.edge_to_tris_items.now a.edge_to_tris_starts.now a.edge_to_pents_items.now a.edge_to_pents_starts.now) (lengths_check_of a.counts (length a.sq_lengths.now) (edge_check_of a.counts a.edge.0 (room_check_of (short_table a.counts (length a.deficits.now) (length a.kinds.now))))) (sym c.is_built_noting.ensures.value ∙ c.if-not-is_built_noting.true));
       lengths = refl;
       deficits = refl;
       kinds = refl;
@@ -22,13 +21,13 @@ returns-then-not-is_built_noting c =
 
 pub retouch_built-requires : goal.retouch_built-requires
 retouch_built-requires c =
-    let h = not-false c.is_built_noting.result c.if-not-is_built_noting.false in
+    let h = c.if-not-is_built_noting.false in
     record { built = sym c.is_built_noting.ensures.value ∙ h; noted = noted_of c.is_built_noting.ensures.noting h }
 
 pub returns : goal.returns
 returns c =
     let a = c.args in
-    let h = not-false c.is_built_noting.result c.if-not-is_built_noting.false in
+    let h = c.if-not-is_built_noting.false in
     let t = c.retouch_built.ensures in
     record {
       answered =

@@ -17,7 +17,7 @@ use Rattle.retouch.proofs.retouch_built.Goals as goal
 pub list_touched-count-requires : goal.list_touched-count-requires
 list_touched-count-requires c =
     let a = c.args in
-    let o = sym (c.check_lengths.ensures ∙ ap (lengths_check_of a.counts (length a.sq_lengths.now)) (c.check_edge.ensures ∙ ap (edge_check_of a.counts a.edge.0) c.check_room.ensures)) ∙ c.enum_told-1.given.1 in
+    let o = sym (c.check_lengths.ensures ∙ ap (lengths_check_of a.counts (length a.sq_lengths.now)) (c.check_edge.ensures ∙ ap (edge_check_of a.counts a.edge.0) c.check_room.ensures)) ∙ c.in-Done.is in
     let p = retouch-passed a.counts (lists a.pents.now a.edges.now a.triangles.now a.tets.now a.tri_to_pents_items.now a.tri_to_pents_starts.now a.edge_to_tris_items.now a.edge_to_tris_starts.now a.edge_to_pents_items.now a.edge_to_pents_starts.now) a.pent_edges.now a.pent_tris.now (length a.sq_lengths.now) a.edge.0 _ c.requires o in
     let m = p.0.measured (length a.sq_lengths.now) refl in
     (p.0.on_pents, m.passable.tri_numbers, m.passable.triangles_found, p.0.inside, m.few, scratch-room {A = ℕ} 81920 refl 0 _ refl a.counts.triangles m.few)
@@ -25,14 +25,14 @@ list_touched-count-requires c =
 pub bounds-sq_lengths-edge : goal.bounds-sq_lengths-edge
 bounds-sq_lengths-edge c =
     let a = c.args in
-    let o = sym (c.check_lengths.ensures ∙ ap (lengths_check_of a.counts (length a.sq_lengths.now)) (c.check_edge.ensures ∙ ap (edge_check_of a.counts a.edge.0) c.check_room.ensures)) ∙ c.enum_told-1.given.1 in
+    let o = sym (c.check_lengths.ensures ∙ ap (lengths_check_of a.counts (length a.sq_lengths.now)) (c.check_edge.ensures ∙ ap (edge_check_of a.counts a.edge.0) c.check_room.ensures)) ∙ c.in-Done.is in
     let p = retouch-passed a.counts (lists a.pents.now a.edges.now a.triangles.now a.tets.now a.tri_to_pents_items.now a.tri_to_pents_starts.now a.edge_to_tris_items.now a.edge_to_tris_starts.now a.edge_to_pents_items.now a.edge_to_pents_starts.now) a.pent_edges.now a.pent_tris.now (length a.sq_lengths.now) a.edge.0 _ c.requires o in
     omega (arith, p.0.counted, p.0.inside)
 
 pub write_records-requires : goal.write_records-requires
 write_records-requires c =
     let a = c.args in
-    let o = sym (c.check_lengths.ensures ∙ ap (lengths_check_of a.counts (length a.sq_lengths.now)) (c.check_edge.ensures ∙ ap (edge_check_of a.counts a.edge.0) c.check_room.ensures)) ∙ c.enum_told-1.given.1 in
+    let o = sym (c.check_lengths.ensures ∙ ap (lengths_check_of a.counts (length a.sq_lengths.now)) (c.check_edge.ensures ∙ ap (edge_check_of a.counts a.edge.0) c.check_room.ensures)) ∙ c.in-Done.is in
     let p = retouch-passed a.counts (lists a.pents.now a.edges.now a.triangles.now a.tets.now a.tri_to_pents_items.now a.tri_to_pents_starts.now a.edge_to_tris_items.now a.edge_to_tris_starts.now a.edge_to_pents_items.now a.edge_to_pents_starts.now) a.pent_edges.now a.pent_tris.now (length a.sq_lengths.now) a.edge.0 _ c.requires o in
     let m = p.0.measured _ (length-set a.sq_lengths.now _ _) in
     let room = table-room a.counts (length a.deficits.now) (length a.kinds.now) p.1 in
@@ -47,13 +47,13 @@ write_records-requires c =
 pub returns-in-Refused : goal.returns-in-Refused
 returns-in-Refused c =
     let a = c.args in
-    let o = sym (c.check_lengths.ensures ∙ ap (lengths_check_of a.counts (length a.sq_lengths.now)) (c.check_edge.ensures ∙ ap (edge_check_of a.counts a.edge.0) c.check_room.ensures)) ∙ c.refusal-1.given.1 in
+    let o = sym (c.check_lengths.ensures ∙ ap (lengths_check_of a.counts (length a.sq_lengths.now)) (c.check_edge.ensures ∙ ap (edge_check_of a.counts a.edge.0) c.check_room.ensures)) ∙ c.in-Refused.is in
     record { answered = sym o; lengths = refl; deficits = refl; kinds = refl }
 
 pub returns-in-Done : goal.returns-in-Done
 returns-in-Done c =
     let a = c.args in
-    let o = sym (c.check_lengths.ensures ∙ ap (lengths_check_of a.counts (length a.sq_lengths.now)) (c.check_edge.ensures ∙ ap (edge_check_of a.counts a.edge.0) c.check_room.ensures)) ∙ c.enum_told-1.given.1 in
+    let o = sym (c.check_lengths.ensures ∙ ap (lengths_check_of a.counts (length a.sq_lengths.now)) (c.check_edge.ensures ∙ ap (edge_check_of a.counts a.edge.0) c.check_room.ensures)) ∙ c.in-Done.is in
     let F = faces_in a.counts a.pents.now a.edges.now a.triangles.now in
     let f = c.list_touched-count in
     let w = c.write_records.ensures in

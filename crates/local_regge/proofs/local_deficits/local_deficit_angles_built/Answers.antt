@@ -26,21 +26,21 @@ check_free-requires c = let a = c.args in edges_few a.counts (lists a.pents.now 
 pub mark_tris-requires : goal.mark_tris-requires
 mark_tris-requires c =
     let a = c.args in
-    let o = sym (c.check_lengths.ensures ∙ ap (lengths_check_of a.counts (length a.sq_lengths.now)) c.check_free.ensures) ∙ c.enum_told-1.given.1 in
+    let o = sym (c.check_lengths.ensures ∙ ap (lengths_check_of a.counts (length a.sq_lengths.now)) c.check_free.ensures) ∙ c.in-Done.is in
     let p = local-passed a.counts (lists a.pents.now a.edges.now a.triangles.now a.tets.now a.tri_to_pents_items.now a.tri_to_pents_starts.now a.edge_to_tris_items.now a.edge_to_tris_starts.now a.edge_to_pents_items.now a.edge_to_pents_starts.now) a.pent_edges.now a.pent_tris.now a.free_edges.now (length a.sq_lengths.now) (Done) c.requires o in
     (p.0.on_triangles, p.0.below, scratch-room {A = ℕ} 81920 refl 0 _ refl a.counts.triangles p.0.measured.few)
 
 pub count_marked-count-requires : goal.count_marked-count-requires
 count_marked-count-requires c =
     let a = c.args in
-    let o = sym (c.check_lengths.ensures ∙ ap (lengths_check_of a.counts (length a.sq_lengths.now)) c.check_free.ensures) ∙ c.enum_told-1.given.1 in
+    let o = sym (c.check_lengths.ensures ∙ ap (lengths_check_of a.counts (length a.sq_lengths.now)) c.check_free.ensures) ∙ c.in-Done.is in
     let p = local-passed a.counts (lists a.pents.now a.edges.now a.triangles.now a.tets.now a.tri_to_pents_items.now a.tri_to_pents_starts.now a.edge_to_tris_items.now a.edge_to_tris_starts.now a.edge_to_pents_items.now a.edge_to_pents_starts.now) a.pent_edges.now a.pent_tris.now a.free_edges.now (length a.sq_lengths.now) (Done) c.requires o in
     omega (arith, scratch-room {A = ℕ} 81920 refl 0 _ refl a.counts.triangles p.0.measured.few, c.mark_tris.auto.marks)
 
 pub returns-then-short : goal.returns-then-short
 returns-then-short c =
     let a = c.args in
-    let o = sym (c.check_lengths.ensures ∙ ap (lengths_check_of a.counts (length a.sq_lengths.now)) c.check_free.ensures) ∙ c.enum_told-1.given.1 in
+    let o = sym (c.check_lengths.ensures ∙ ap (lengths_check_of a.counts (length a.sq_lengths.now)) c.check_free.ensures) ∙ c.in-Done.is in
     let p = local-passed a.counts (lists a.pents.now a.edges.now a.triangles.now a.tets.now a.tri_to_pents_items.now a.tri_to_pents_starts.now a.edge_to_tris_items.now a.edge_to_tris_starts.now a.edge_to_pents_items.now a.edge_to_pents_starts.now) a.pent_edges.now a.pent_tris.now a.free_edges.now (length a.sq_lengths.now) (Done) c.requires o in
     let M = c.mark_tris.new.marks in
     let m = marks_local a.counts a.pents.now a.edges.now a.triangles.now a.free_edges.now 81920 p.0.measured.few M c.mark_tris.ensures in
@@ -50,7 +50,7 @@ returns-then-short c =
 pub list_marked-requires : goal.list_marked-requires
 list_marked-requires c =
     let a = c.args in
-    let o = sym (c.check_lengths.ensures ∙ ap (lengths_check_of a.counts (length a.sq_lengths.now)) c.check_free.ensures) ∙ c.enum_told-1.given.1 in
+    let o = sym (c.check_lengths.ensures ∙ ap (lengths_check_of a.counts (length a.sq_lengths.now)) c.check_free.ensures) ∙ c.in-Done.is in
     let p = local-passed a.counts (lists a.pents.now a.edges.now a.triangles.now a.tets.now a.tri_to_pents_items.now a.tri_to_pents_starts.now a.edge_to_tris_items.now a.edge_to_tris_starts.now a.edge_to_pents_items.now a.edge_to_pents_starts.now) a.pent_edges.now a.pent_tris.now a.free_edges.now (length a.sq_lengths.now) (Done) c.requires o in
     let M = c.mark_tris.new.marks in
     let n = c.count_marked-count.result in
@@ -61,7 +61,7 @@ list_marked-requires c =
 pub write_hinges-requires : goal.write_hinges-requires
 write_hinges-requires c =
     let a = c.args in
-    let o = sym (c.check_lengths.ensures ∙ ap (lengths_check_of a.counts (length a.sq_lengths.now)) c.check_free.ensures) ∙ c.enum_told-1.given.1 in
+    let o = sym (c.check_lengths.ensures ∙ ap (lengths_check_of a.counts (length a.sq_lengths.now)) c.check_free.ensures) ∙ c.in-Done.is in
     let p = local-passed a.counts (lists a.pents.now a.edges.now a.triangles.now a.tets.now a.tri_to_pents_items.now a.tri_to_pents_starts.now a.edge_to_tris_items.now a.edge_to_tris_starts.now a.edge_to_pents_items.now a.edge_to_pents_starts.now) a.pent_edges.now a.pent_tris.now a.free_edges.now (length a.sq_lengths.now) (Done) c.requires o in
     let M = c.mark_tris.new.marks in
     let n = c.count_marked-count.result in
@@ -78,12 +78,12 @@ write_hinges-requires c =
 pub returns-in-Refused : goal.returns-in-Refused
 returns-in-Refused c =
     let a = c.args in
-    table-refused (local-refused a.counts (length a.sq_lengths.now) a.free_edges.now _ (sym (c.check_lengths.ensures ∙ ap (lengths_check_of a.counts (length a.sq_lengths.now)) c.check_free.ensures) ∙ c.refusal-1.given.1))
+    table-refused (local-refused a.counts (length a.sq_lengths.now) a.free_edges.now _ (sym (c.check_lengths.ensures ∙ ap (lengths_check_of a.counts (length a.sq_lengths.now)) c.check_free.ensures) ∙ c.in-Refused.is))
 
 pub returns-else-short : goal.returns-else-short
 returns-else-short c =
     let a = c.args in
-    let o = sym (c.check_lengths.ensures ∙ ap (lengths_check_of a.counts (length a.sq_lengths.now)) c.check_free.ensures) ∙ c.enum_told-1.given.1 in
+    let o = sym (c.check_lengths.ensures ∙ ap (lengths_check_of a.counts (length a.sq_lengths.now)) c.check_free.ensures) ∙ c.in-Done.is in
     let p = local-passed a.counts (lists a.pents.now a.edges.now a.triangles.now a.tets.now a.tri_to_pents_items.now a.tri_to_pents_starts.now a.edge_to_tris_items.now a.edge_to_tris_starts.now a.edge_to_pents_items.now a.edge_to_pents_starts.now) a.pent_edges.now a.pent_tris.now a.free_edges.now (length a.sq_lengths.now) (Done) c.requires o in
     let F = faces_in a.counts a.pents.now a.edges.now a.triangles.now in
     let M = c.mark_tris.new.marks in

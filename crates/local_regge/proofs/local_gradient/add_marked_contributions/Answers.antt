@@ -1,6 +1,5 @@
 -- `local_regge::local_gradient::add_marked_contributions` meets its contract. Assumes nothing.
 use Prim.Native.Nat.{◌-◌}
-use mathlib.Core.Logic.{⊎_elim}
 use mathlib.Core.Path.{◌≡◌, refl, ap, ◌∙◌}
 use native.Mathlib.Omega.{arith}
 use lib.Ieee.{nan}
@@ -19,6 +18,7 @@ use Rattle.hinges.specs.Action.{edges_at, tri_lengths, contributions_of, contrib
 use Rattle.hinges.proofs.TriangleSteps.{edges-below}
 use Rattle.local_regge.proofs.LocalSteps.{deficit-at}
 use Rattle.local_regge.proofs.local_gradient.add_marked_contributions.Goals as goal
+use Rattle.local_regge.proofs.local_gradient.add_marked_contributions.Goals.{then-marks-t-eq1, else-marks-t-eq1}
 
 pub loop-t-init : goal.loop-t-init
 unfolding marked_below upto keep gather scatter
@@ -56,18 +56,26 @@ loop-t-preserved c =
     let F : FaceLists = faces_in a.counts a.pents.now a.edges.now a.triangles.now in
     let ls = a.sq_lengths.now in
     let ds = deficits_of (hinges F ls) in
-    ⊎_elim
-    (λ w.
-    let e : contributions_of (edge_list w.1.result) w.2.result w.3.result.deficit ≡ contributions F ls ds l.t =
-    ap (λ es. contributions_of es w.2.result w.3.result.deficit) w.1.ensures
-    ∙ ap (λ s. contributions_of (edges_at F l.t) s w.3.result.deficit) (w.2.ensures ∙ ap (lengths_at ls) w.1.ensures)
-    ∙ ap (contributions_of (edges_at F l.t) (tri_lengths F ls l.t)) (ap (λ (u : Hinge). u.deficit) w.3.ensures ∙ deficit-at F ls l.t (omega (arith, c.loop-t-test.true, length-rows 3 a.counts.triangles a.triangles.now))) in (
+    elim c.if-marks-t-eq1.branch [
+    then-marks-t-eq1 w ↦
+    let own = w.tri_edge_indices-own in
+    let s = w.tri_sq_lengths-s in
+    let h = w.hinge_at-hinge in
+    let f = w.add_contributions in
+    let e : contributions_of (edge_list own.result) s.result h.result.deficit ≡ contributions F ls ds l.t =
+    ap (λ es. contributions_of es s.result h.result.deficit) own.ensures
+    ∙ ap (λ r. contributions_of (edges_at F l.t) r h.result.deficit) (s.ensures ∙ ap (lengths_at ls) own.ensures)
+    ∙ ap (contributions_of (edges_at F l.t) (tri_lengths F ls l.t)) (ap (λ (u : Hinge). u.deficit) h.ensures ∙ deficit-at F ls l.t (omega (arith, c.loop-t-test.true, length-rows 3 a.counts.triangles a.triangles.now))) in (
       omega (arith, c.loop-t-test.true),
-      rw w.8 (w.5.kept.1.1.1.0 ∙ l.invariant.1),
-      rw w.8 (scatter-here nan ◌⊕◌ (contributions F ls ds) a.marks.now l.t a.entries.now l.entries l.invariant.2 (eq-eqb _ _ w.0.taken) _ e w.5.last.1.1.1.0 w.5.ensures),
-    ))
-    (λ w. (omega (arith, c.loop-t-test.true), rw w.1 l.invariant.1, rw w.1 (scatter-past nan ◌⊕◌ (contributions F ls ds) a.marks.now l.t a.entries.now l.entries l.invariant.2 (ne_eqb _ _ w.0.left))))
-    c.if-marks-t-eq1.branch
+      c.if-marks-t-eq1.auto.entries ∙ l.invariant.1,
+      rw w.entries-is (scatter-here nan ◌⊕◌ (contributions F ls ds) a.marks.now l.t a.entries.now l.entries l.invariant.2 (eq-eqb _ _ w.if-marks-t-eq1.true) _ e _ f.ensures),
+    )
+    | else-marks-t-eq1 w ↦ (
+      omega (arith, c.loop-t-test.true),
+      c.if-marks-t-eq1.auto.entries ∙ l.invariant.1,
+      rw w.entries-is (scatter-past nan ◌⊕◌ (contributions F ls ds) a.marks.now l.t a.entries.now l.entries l.invariant.2 (ne_eqb _ _ w.if-marks-t-eq1.false)),
+    )
+    ]
 
 pub shape_of-entries : goal.shape_of-entries
 shape_of-entries c = c.loop-t.invariant.1

@@ -19,21 +19,21 @@ check_free-requires c = let a = c.args in edges_few a.counts (lists a.pents.now 
 pub mark_tris-requires : goal.mark_tris-requires
 mark_tris-requires c =
     let a = c.args in
-    let o = sym (c.check_lengths.ensures ∙ ap (lengths_check_of a.counts (length a.sq_lengths.now)) (c.check_free.ensures ∙ ap (free_check_of a.counts a.free_edges.now) c.check_room.ensures)) ∙ c.enum_told-1.given.1 in
+    let o = sym (c.check_lengths.ensures ∙ ap (lengths_check_of a.counts (length a.sq_lengths.now)) (c.check_free.ensures ∙ ap (free_check_of a.counts a.free_edges.now) c.check_room.ensures)) ∙ c.in-Done.is in
     let p = local-passed a.counts (lists a.pents.now a.edges.now a.triangles.now a.tets.now a.tri_to_pents_items.now a.tri_to_pents_starts.now a.edge_to_tris_items.now a.edge_to_tris_starts.now a.edge_to_pents_items.now a.edge_to_pents_starts.now) a.pent_edges.now a.pent_tris.now a.free_edges.now (length a.sq_lengths.now) (room_check_of (ltb (length a.grad.now) (length a.free_edges.now))) c.requires o in
     (p.0.on_triangles, p.0.below, scratch-room {A = ℕ} 81920 refl 0 _ refl a.counts.triangles p.0.measured.few)
 
 pub add_marked_contributions-requires : goal.add_marked_contributions-requires
 add_marked_contributions-requires c =
     let a = c.args in
-    let o = sym (c.check_lengths.ensures ∙ ap (lengths_check_of a.counts (length a.sq_lengths.now)) (c.check_free.ensures ∙ ap (free_check_of a.counts a.free_edges.now) c.check_room.ensures)) ∙ c.enum_told-1.given.1 in
+    let o = sym (c.check_lengths.ensures ∙ ap (lengths_check_of a.counts (length a.sq_lengths.now)) (c.check_free.ensures ∙ ap (free_check_of a.counts a.free_edges.now) c.check_room.ensures)) ∙ c.in-Done.is in
     let p = local-passed a.counts (lists a.pents.now a.edges.now a.triangles.now a.tets.now a.tri_to_pents_items.now a.tri_to_pents_starts.now a.edge_to_tris_items.now a.edge_to_tris_starts.now a.edge_to_pents_items.now a.edge_to_pents_starts.now) a.pent_edges.now a.pent_tris.now a.free_edges.now (length a.sq_lengths.now) (room_check_of (ltb (length a.grad.now) (length a.free_edges.now))) c.requires o in
     (p.0.measured, omega (arith, scratch-room {A = ℕ} 81920 refl 0 _ refl a.counts.triangles p.0.measured.few, c.mark_tris.auto.marks), scratch-room 81920 refl zero _ refl a.counts.edges p.0.few_edges)
 
 pub write_entries-requires : goal.write_entries-requires
 write_entries-requires c =
     let a = c.args in
-    let o = sym (c.check_lengths.ensures ∙ ap (lengths_check_of a.counts (length a.sq_lengths.now)) (c.check_free.ensures ∙ ap (free_check_of a.counts a.free_edges.now) c.check_room.ensures)) ∙ c.enum_told-1.given.1 in
+    let o = sym (c.check_lengths.ensures ∙ ap (lengths_check_of a.counts (length a.sq_lengths.now)) (c.check_free.ensures ∙ ap (free_check_of a.counts a.free_edges.now) c.check_room.ensures)) ∙ c.in-Done.is in
     let p = local-passed a.counts (lists a.pents.now a.edges.now a.triangles.now a.tets.now a.tri_to_pents_items.now a.tri_to_pents_starts.now a.edge_to_tris_items.now a.edge_to_tris_starts.now a.edge_to_pents_items.now a.edge_to_pents_starts.now) a.pent_edges.now a.pent_tris.now a.free_edges.now (length a.sq_lengths.now) (room_check_of (ltb (length a.grad.now) (length a.free_edges.now))) c.requires o in
     let r = scratch-room 81920 refl zero _ refl a.counts.edges p.0.few_edges in
     ((λ k h. omega (arith, p.0.below k h, r, c.add_marked_contributions.auto.entries)), ltb-false (length a.grad.now) (length a.free_edges.now) (room-passed (ltb (length a.grad.now) (length a.free_edges.now)) p.1))
@@ -41,12 +41,12 @@ write_entries-requires c =
 pub returns-in-Refused : goal.returns-in-Refused
 returns-in-Refused c =
     let a = c.args in
-    record { answered = sym (sym (c.check_lengths.ensures ∙ ap (lengths_check_of a.counts (length a.sq_lengths.now)) (c.check_free.ensures ∙ ap (free_check_of a.counts a.free_edges.now) c.check_room.ensures)) ∙ c.refusal-1.given.1); entries = refl }
+    record { answered = sym (sym (c.check_lengths.ensures ∙ ap (lengths_check_of a.counts (length a.sq_lengths.now)) (c.check_free.ensures ∙ ap (free_check_of a.counts a.free_edges.now) c.check_room.ensures)) ∙ c.in-Refused.is); entries = refl }
 
 pub returns-in-Done : goal.returns-in-Done
 returns-in-Done c =
     let a = c.args in
-    let o = sym (c.check_lengths.ensures ∙ ap (lengths_check_of a.counts (length a.sq_lengths.now)) (c.check_free.ensures ∙ ap (free_check_of a.counts a.free_edges.now) c.check_room.ensures)) ∙ c.enum_told-1.given.1 in
+    let o = sym (c.check_lengths.ensures ∙ ap (lengths_check_of a.counts (length a.sq_lengths.now)) (c.check_free.ensures ∙ ap (free_check_of a.counts a.free_edges.now) c.check_room.ensures)) ∙ c.in-Done.is in
     let p = local-passed a.counts (lists a.pents.now a.edges.now a.triangles.now a.tets.now a.tri_to_pents_items.now a.tri_to_pents_starts.now a.edge_to_tris_items.now a.edge_to_tris_starts.now a.edge_to_pents_items.now a.edge_to_pents_starts.now) a.pent_edges.now a.pent_tris.now a.free_edges.now (length a.sq_lengths.now) (room_check_of (ltb (length a.grad.now) (length a.free_edges.now))) c.requires o in
     record {
       answered = sym o;

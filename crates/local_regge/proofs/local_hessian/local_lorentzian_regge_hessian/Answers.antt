@@ -13,16 +13,16 @@ use Rattle.local_regge.proofs.local_hessian.local_lorentzian_regge_hessian.Goals
 pub returns-then-not-is_built_noting : goal.returns-then-not-is_built_noting
 returns-then-not-is_built_noting c =
     let a = c.args in
-    record { answered = sym (not-built a.counts (lists a.pents.now a.edges.now a.triangles.now a.tets.now a.tri_to_pents_items.now a.tri_to_pents_starts.now a.edge_to_tris_items.now a.edge_to_tris_starts.now a.edge_to_pents_items.now a.edge_to_pents_starts.now) (lengths_check_of a.counts (length a.sq_lengths.now) (free_check_of a.counts a.free_edges.now (room_check_of (ltb (length a.hessian.now) (length a.free_edges.now * length a.free_edges.now))))) (sym c.is_built_noting.ensures.value ∙ not-true c.is_built_noting.result c.if-not-is_built_noting.true)); entries = refl }
+    record { answered = sym (not-built a.counts (lists a.pents.now a.edges.now a.triangles.now a.tets.now a.tri_to_pents_items.now a.tri_to_pents_starts.now a.edge_to_tris_items.now a.edge_to_tris_starts.now a.edge_to_pents_items.now a.edge_to_pents_starts.now) (lengths_check_of a.counts (length a.sq_lengths.now) (free_check_of a.counts a.free_edges.now (room_check_of (ltb (length a.hessian.now) (length a.free_edges.now * length a.free_edges.now))))) (sym c.is_built_noting.ensures.value ∙ c.if-not-is_built_noting.true)); entries = refl }
 
 pub local_lorentzian_regge_hessian_built-requires : goal.local_lorentzian_regge_hessian_built-requires
 local_lorentzian_regge_hessian_built-requires c =
-    let h = not-false c.is_built_noting.result c.if-not-is_built_noting.false in
+    let h = c.if-not-is_built_noting.false in
     record { built = sym c.is_built_noting.ensures.value ∙ h; noted = noted_of c.is_built_noting.ensures.noting h }
 
 pub returns : goal.returns
 returns c =
     let a = c.args in
-    let h = not-false c.is_built_noting.result c.if-not-is_built_noting.false in
+    let h = c.if-not-is_built_noting.false in
     let g = c.local_lorentzian_regge_hessian_built.ensures in
     record { answered = g.answered ∙ sym (others-decide a.counts (lists a.pents.now a.edges.now a.triangles.now a.tets.now a.tri_to_pents_items.now a.tri_to_pents_starts.now a.edge_to_tris_items.now a.edge_to_tris_starts.now a.edge_to_pents_items.now a.edge_to_pents_starts.now) (lengths_check_of a.counts (length a.sq_lengths.now) (free_check_of a.counts a.free_edges.now (room_check_of (ltb (length a.hessian.now) (length a.free_edges.now * length a.free_edges.now))))) (sym c.is_built_noting.ensures.value ∙ h)); entries = g.entries }
