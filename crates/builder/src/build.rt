@@ -24,7 +24,7 @@ pub fn build(
         tri_to_pents_items.old tri_to_pents_starts.old edge_to_tris_items.old edge_to_tris_starts.old
         edge_to_pents_items.old edge_to_pents_starts.old) }
     ensures value { result ≡ counts_of n_vertices (sorted_pents given.now) }
-    ensures edge_to_pents_starts_after { lists pents.new edges.new triangles.new tets.new
+    ensures lists_after { lists pents.new edges.new triangles.new tets.new
         tri_to_pents_items.new tri_to_pents_starts.new edge_to_tris_items.new edge_to_tris_starts.new
         edge_to_pents_items.new edge_to_pents_starts.new
         ≡ over_all (written (sorted_pents given.now)) (lists pents.old edges.old triangles.old tets.old

@@ -51,7 +51,7 @@ fn decode_complex(
         tri_to_pents_items.old tri_to_pents_starts.old edge_to_tris_items.old edge_to_tris_starts.old
         edge_to_pents_items.old edge_to_pents_starts.old) ≡ room_for 64 }
     ensures value { result ≡ complex_of input.now }
-    ensures edge_to_pents_starts_after { lists pents.new edges.new triangles.new tets.new
+    ensures lists_after { lists pents.new edges.new triangles.new tets.new
         tri_to_pents_items.new tri_to_pents_starts.new edge_to_tris_items.new edge_to_tris_starts.new
         edge_to_pents_items.new edge_to_pents_starts.new
         ≡ lists_after (complex_check_of input.now) (given_in input.now)

@@ -22,4 +22,4 @@ unfolding rooms_of
 returns-in-Done c =
     let b = c.build in
     let e = sym c.check.ensures ∙ c.in-Done.is in
-    record { answered = rw e (ap Done b.ensures.value); left = rw e b.ensures.edge_to_pents_starts_after }
+    record { answered = rw e (ap Done b.ensures.value); left = rw e b.ensures.lists_after }

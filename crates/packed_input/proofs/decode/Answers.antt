@@ -51,4 +51,4 @@ unfolding zero_lists
 returns c =
     let f = c.decode_complex-built in
     let g = c.decode_lengths-answer in
-    record { answered = g.ensures.0 ∙ ap (with_lengths c.args.input.now) f.ensures.value; complex = f.ensures.edge_to_pents_starts_after; lengths = g.ensures.1 }
+    record { answered = g.ensures.0 ∙ ap (with_lengths c.args.input.now) f.ensures.value; complex = f.ensures.lists_after; lengths = g.ensures.1 }

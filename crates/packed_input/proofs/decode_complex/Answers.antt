@@ -41,7 +41,7 @@ returns-in-Refused c =
     let e = header-decides c.args.input.now _ (sym c.check_header.ensures ∙ c.in-Refused.is) in
     record {
       value = rw e refl;
-      edge_to_pents_starts_after = rw e refl;
+      lists_after = rw e refl;
     }
 
 pub returns-in-Done : goal.returns-in-Done
@@ -50,4 +50,4 @@ returns-in-Done c =
     let h = sym c.check_header.ensures ∙ c.in-Done.is in
     let g = vertices-front a.input.now _ _ _ c.number-n_pents.ensures.0 c.read_vertices.ensures in
     let b = builder-answers a.input.now _ _ _ _ _ h c.number-n_vertices.ensures.0 g c.requires c.from_pentachorons.ensures in
-    record { value = b.0; edge_to_pents_starts_after = b.1 }
+    record { value = b.0; lists_after = b.1 }

@@ -120,5 +120,5 @@ returns c =
     let work : 245760 ≤ length f.new.next = omega (arith, f.auto.next) in
     let j = c.adjacency in record {
       value = counts-are a.given.now l ok a.n_vertices _ _ _ _ s _ _ _ _ _ _ _ _ _ refl left faces.on_tets faces.on_edges faces.on_triangles;
-      edge_to_pents_starts_after = lists-are a.given.now l ok a.n_vertices _ _ _ _ s _ _ _ _ _ _ _ _ _ refl left faces.on_tets faces.on_edges faces.on_triangles _ _ _ _ _ _ _ _ _ pe pt (omega (arith, j.auto.tri_edges)) j.ensures;
+      lists_after = lists-are a.given.now l ok a.n_vertices _ _ _ _ s _ _ _ _ _ _ _ _ _ refl left faces.on_tets faces.on_edges faces.on_triangles _ _ _ _ _ _ _ _ _ pe pt (omega (arith, j.auto.tri_edges)) j.ensures;
     }
