@@ -8,7 +8,6 @@ use lib.Dec.{eqb, ltb}
 use lib.ListN.{length, take, drop, length-append}
 use borrow.Author.Tests.{eqb-false, ltb-false}
 use Rattle.refusals.specs.declared.Outcome.{Outcome}
-use Rattle.refusals.specs.declared.Outcome.TheVariants as Outcome
 use Rattle.lists.specs.Rows.{flat, over, begins}
 use Rattle.lists.proofs.Tests.{said, passes}
 use Rattle.lists.proofs.Rows.{length-rows, length-flat, rows-flat, begins-says, begins-over, over-take, over-begins}

@@ -9,7 +9,6 @@ use lib.ListN.{length, take}
 use lib.Seq.{length-take-le}
 use borrow.Author.Tests.{leb-true, le-leb, eqb-true, eqb-false, eq-eqb, ne_eqb, ltb-false, le-ltb}
 use Rattle.refusals.specs.declared.Outcome.{Outcome}
-use Rattle.refusals.specs.declared.Outcome.TheVariants as Outcome
 use Rattle.lists.specs.Rows.{flat, rows, Wide, begins}
 use Rattle.lists.specs.Sorting.{sort}
 use Rattle.lists.proofs.Tests.{Says, says-by, said, passes, and-true}

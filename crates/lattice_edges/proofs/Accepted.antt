@@ -23,7 +23,7 @@ use Rattle.lists.proofs.Sorting.{sort-mem, sort-rising, rising_ascending, rising
 use Rattle.complex.specs.declared.Counts.{Counts}
 use Rattle.complex.specs.declared.Built.TheVariants as Built
 use Rattle.complex.specs.declared.checks.Rooms.{Rooms}
-use Rattle.complex.specs.Builder.{pentachorons, sorted_pents, is_short, check_of, counts_of, Lists, written, over_all, Builds}
+use Rattle.complex.specs.Builder.{sorted_pents, is_short, check_of, counts_of, Lists, written, over_all, Builds}
 use Rattle.complex.proofs.SortedPents.{sorted-is, flat_back}
 use Rattle.complex.proofs.Laws.{all-sorted, all-below, no-repeat, no-offence}
 use Rattle.comparison.proofs.Rises.{RisesBelow, AllRise}

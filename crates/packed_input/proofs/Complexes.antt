@@ -10,14 +10,12 @@ use borrow.Author.Tests.{eq-eqb, le-ltb}
 use Rattle.refusals.specs.declared.Refusal.{Refusal}
 use Rattle.refusals.specs.declared.Refusal.TheVariants.{VertexCount}
 use Rattle.refusals.specs.declared.Outcome.{Outcome}
-use Rattle.refusals.specs.declared.Outcome.TheVariants as Outcome
 use Rattle.lists.specs.Lists.{upto}
 use Rattle.lists.specs.Rows.{Wide, over}
 use Rattle.lists.proofs.Elements.{length-upto}
 use Rattle.lists.proofs.Keys.{firsts-room}
 use Rattle.lists.proofs.Rows.{over-take}
 use Rattle.complex.specs.declared.Built.{Built}
-use Rattle.complex.specs.declared.Built.TheVariants.{Done, Refused}
 use Rattle.complex.specs.declared.numbering.Face.{Face}
 use Rattle.complex.specs.declared.numbering.Face.TheVariants.{Edge, Triangle}
 use Rattle.complex.specs.Complex.{count_of, met_faces, faces, edges, triangles}

@@ -1,28 +1,26 @@
 -- What an input that is not refused decodes to: a built complex of its pentachorons, with as many squared lengths as edges. Assumes nothing.
 use Prim.Native.Nat.{ℕ, ◌≤◌}
-use mathlib.Core.Path.{◌≡◌, refl, sym, ap, ◌∙◌, subst}
+use mathlib.Core.Path.{◌≡◌, refl, sym, ap, ◌∙◌}
 use mathlib.Core.Bool.{true}
-use mathlib.Core.List.{List, ◌++◌, append-nil}
+use mathlib.Core.List.{List}
 use native.Mathlib.Omega.{arith}
 use lib.Ieee.{Float}
 use lib.ListN.{length, take, drop, replicate, length-map}
 use lib.Seq.{take_at}
 use Rattle.refusals.specs.declared.Outcome.{Outcome}
-use Rattle.refusals.specs.declared.Outcome.TheVariants as Outcome
 use Rattle.floats.specs.Ops.{zero}
 use Rattle.lists.specs.Lists.{upto}
 use Rattle.lists.specs.Rows.{over}
 use Rattle.lists.proofs.Elements.{length-upto}
 use Rattle.lists.proofs.Rows.{rows-flat}
 use Rattle.complex.specs.declared.Counts.{Counts}
-use Rattle.complex.specs.declared.Built.{Built}
-use Rattle.complex.specs.declared.Built.TheVariants.{Done, Refused}
-use Rattle.complex.specs.Builder.{sorted_pents, check_of, built_of, counts_of, Lists, written, over_all, lists_after, rooms_of, Builds}
+use Rattle.complex.specs.declared.Built.TheVariants.{Done}
+use Rattle.complex.specs.Builder.{sorted_pents, check_of, built_of, counts_of, Lists, written, over_all, lists_after, rooms_of}
 use Rattle.complex.specs.Check.{pents_in, room_for, is_built}
 use Rattle.complex.proofs.SortedPents.{sorted-wide-all}
 use Rattle.comparison.proofs.BuiltAgain.{builder-built}
 use Rattle.packed_input.specs.Format.{vertex_count, sq_length_at, sq_lengths_in}
-use Rattle.packed_input.specs.Decoding.{complex_check_of, given_in, tail_check_of, complex_of, counts_by, with_lengths, decoded_of, lengths_after, zero_lists, Decodes}
+use Rattle.packed_input.specs.Decoding.{complex_check_of, given_in, tail_check_of, counts_by, with_lengths, decoded_of, zero_lists, Decodes}
 use Rattle.packed_input.proofs.Complexes.{header-passed, builder-decides, small-complex}
 
 -- ---- an answer

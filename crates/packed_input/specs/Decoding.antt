@@ -2,7 +2,6 @@
 use Rattle.std.specs.Prelude.{ℕ, ◌+◌, ◌*◌, ◌≤◌, ◌≡◌, not, cond, ◌||◌, List, eqb, ltb, Float, length, replicate}
 use Rattle.refusals.specs.declared.Refusal.TheVariants.{BadInput, TooManyPentachorons}
 use Rattle.refusals.specs.declared.Outcome.{Outcome}
-use Rattle.refusals.specs.declared.Outcome.TheVariants as Outcome
 use Rattle.floats.specs.Ops.{zero}
 use Rattle.lists.specs.Rows.{over}
 use Rattle.complex.specs.declared.Counts.{Counts}

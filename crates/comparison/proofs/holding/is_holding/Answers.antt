@@ -1,5 +1,4 @@
 -- `comparison::holding::is_holding` meets its contract. Assumes nothing.
-use Prim.Native.Nat.{◌-◌}
 use mathlib.Core.Path.{◌≡◌, sym, ◌∙◌}
 use mathlib.Core.Bool.{true, true≢false}
 use native.Mathlib.Omega.{arith}

@@ -1,5 +1,5 @@
 -- `packed_input::bits::number` meets its contract: after i turns n is what the first i bits spell. Assumes nothing.
-use Prim.Native.Nat.{◌+◌, ◌-◌}
+use Prim.Native.Nat.{◌+◌}
 use mathlib.Core.Path.{◌≡◌, refl}
 use native.Mathlib.Omega.{arith}
 use Rattle.packed_input.specs.Format.{field}
