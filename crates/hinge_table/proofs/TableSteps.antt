@@ -10,7 +10,6 @@ use lib.ListN.{length, get_or, set, take, drop, length-append, get_or-append}
 use borrow.Author.Tests.{ltb-false}
 use Rattle.refusals.specs.declared.Refusal.{Refusal}
 use Rattle.refusals.specs.declared.Outcome.{Outcome}
-use Rattle.refusals.specs.declared.Outcome.TheVariants as Outcome
 use Rattle.lists.specs.Lists.{upto}
 use Rattle.lists.specs.Rows.{over}
 use Rattle.lists.specs.Writes.{writes}

@@ -1,5 +1,4 @@
 -- `hinge_table::lorentzian_deficit_angles` meets its contract. Assumes nothing.
-use mathlib.Core.Path.{◌∙◌}
 use Rattle.hinge_table.proofs.TableSteps.{table_worked}
 use Rattle.hinge_table.proofs.lorentzian_deficit_angles.Goals as goal
 

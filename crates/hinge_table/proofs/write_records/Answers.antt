@@ -3,7 +3,7 @@ use Prim.Native.Nat.{ℕ}
 use mathlib.Core.List.{List}
 use mathlib.Core.Path.{◌≡◌, refl, sym, ap, ◌∙◌}
 use native.Mathlib.Omega.{arith}
-use lib.ListN.{length, get_or, set, take, length-set}
+use lib.ListN.{get_or, set, take, length-set}
 use Rattle.lists.specs.Writes.{writes}
 use Rattle.lists.proofs.Writes.{writes-next}
 use Rattle.hinges.specs.declared.hinge.Hinge.{Hinge}

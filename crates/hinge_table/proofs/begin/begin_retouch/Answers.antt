@@ -2,7 +2,6 @@
 use mathlib.Core.Path.{refl, sym, ap, ◌∙◌}
 use native.Mathlib.Omega.{arith}
 use lib.ListN.{length, set}
-use borrow.Author.Tests.{not-true, not-false}
 use Rattle.complex.specs.Builder.{lists}
 use Rattle.calls.specs.Calls.{lengths_check_of, room_check_of}
 use Rattle.calls.proofs.BuiltCalls.{not-built, others-decide}

@@ -1,7 +1,6 @@
 -- `hinge_table::begin::begin_table` meets its contract. Assumes nothing.
 use mathlib.Core.Path.{sym, ap, ◌∙◌}
 use native.Mathlib.Omega.{arith}
-use borrow.Author.Tests.{not-true, not-false}
 use Rattle.lists.proofs.Elements.{length-upto}
 use Rattle.complex.specs.Builder.{lists}
 use Rattle.calls.specs.Calls.{lengths_check_of, room_check_of}

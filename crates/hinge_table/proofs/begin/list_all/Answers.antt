@@ -1,5 +1,4 @@
 -- `hinge_table::begin::list_all` meets its contract. Assumes nothing.
-use Prim.Native.Nat.{◌-◌}
 use mathlib.Core.Path.{◌≡◌, refl, ap, ◌∙◌}
 use mathlib.Core.List.{map-id}
 use native.Mathlib.Numerals.{add-one}
