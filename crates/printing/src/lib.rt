@@ -1,11 +1,28 @@
-// Numbers and doubles as text, and lines of them on standard output. No contract can say what is written.
+// Bytes read from an input; numbers and doubles as text, and lines of them on standard output. No contract can say what is read or written.
 #![tactic(auto)]
 
-ghost use Rattle.std.specs.Prelude.{◌≡◌, take};
+ghost use Rattle.std.specs.Prelude.{◌≡◌, IfOk, take};
 ghost use Rattle.io.specs.Counts.{IsPrefixLen};
 ghost use Rattle.printing.specs.Text.{text_of};
 
-use std::io::Result;
+use std::io::{Read, Result};
+
+// ---- reading
+
+// Reads until the buffer is full or the input ends, and answers how many bytes it put at the buffer's beginning.
+pub fn read_full(mut input: impl Read + Drop, buffer: &mut [u8]) -> Result<usize>
+    ensures { IfOk result (λ len. IsPrefixLen len buffer.new) }
+{
+    let mut len = 0;
+    while len < buffer.len() {
+        let n = input.read(&mut buffer[len..])?;
+        if n == 0 {
+            break;
+        }
+        len += n;
+    }
+    Ok(len)
+}
 
 // ---- text
 

@@ -1,18 +1,13 @@
 -- The calls over a built complex with its lengths, given room, answer. Assumes nothing.
-use Prim.Native.Nat.{ℕ, ◌≤◌}
-use mathlib.Core.Path.{◌≡◌, refl, ap, ◌∙◌}
-use mathlib.Core.List.{List}
-use lib.Ieee.{Float}
+use Prim.Native.Nat.{ℕ}
+use mathlib.Core.Path.{◌≡◌, refl, ◌∙◌}
 use borrow.Author.Tests.{eq-eqb, le-ltb}
-use Rattle.refusals.specs.declared.Outcome.{Outcome}
 use Rattle.refusals.specs.declared.Outcome.TheVariants.{Done}
 use Rattle.complex.specs.declared.Counts.{Counts}
 use Rattle.complex.specs.Builder.{Lists}
-use Rattle.complex.specs.Check.{written_after}
-use Rattle.hinges.specs.Hinges.{FaceLists, hinges, deficits_of, kinds_of}
 use Rattle.calls.specs.Calls.{built_check_of, lengths_check_of, room_check_of, short_table}
 use Rattle.calls.proofs.BuiltCalls.{others-decide}
-use Rattle.lorentzian_regge.specs.Answers.{short_gradient, Tabled, Graded}
+use Rattle.lorentzian_regge.specs.Answers.{short_gradient}
 use Rattle.report.specs.Report.{Evaluable}
 
 module _ (c : Counts) (l : Lists) (lengths deficits kinds grad : ℕ) (ok : Evaluable c l lengths deficits kinds grad) where

@@ -7,46 +7,32 @@ use Rattle.packed_input.proofs.DecodedComplex.{decoded-few, decoded-built, lengt
 use Rattle.report.proofs.Reporting.{refused_reports, decodes-to, done_reports}
 use Rattle.report.proofs.evaluate.Goals as goal
 
-pub slice_bounds-evaluate_built-end-in-Done-6 : goal.slice_bounds-evaluate_built-end-in-Done-6
-slice_bounds-evaluate_built-end-in-Done-6 c = let y = c.decode-decoded.type-inv.1.1.1.1.1.1.1.1.1.0 in search rules
-
-pub slice_bounds-evaluate_built-end-in-Done-7 : goal.slice_bounds-evaluate_built-end-in-Done-7
-slice_bounds-evaluate_built-end-in-Done-7 c = let y = c.decode-decoded.type-inv.1.1.1.1.1.1.1.1.1.1.0 in search rules
-
-pub slice_bounds-evaluate_built-end-in-Done-8 : goal.slice_bounds-evaluate_built-end-in-Done-8
-slice_bounds-evaluate_built-end-in-Done-8 c = let y = c.decode-decoded.type-inv.1.1.1.1.1.1.1.1.1.1.1.0 in search rules
-
-pub slice_bounds-evaluate_built-end-in-Done-9 : goal.slice_bounds-evaluate_built-end-in-Done-9
-slice_bounds-evaluate_built-end-in-Done-9 c = let y = c.decode-decoded.type-inv.1.1.1.1.1.1.1.1.1.1.1.1.0 in search rules
-
 pub slice_bounds-sq_lengths-end : goal.slice_bounds-sq_lengths-end
 slice_bounds-sq_lengths-end c =
     let f = c.decode-decoded in
-    let y = f.type-inv.1.1.1.1.1.1.1.1.1.1.1.1.1 in
     let n : length f.result.sq_lengths ≡ 640 = search rules in
-    omega (arith, decoded-few c.args.input.now _ (sym c.answer-in-Done-1.given.1 ∙ f.ensures.answered))
+    omega (arith, decoded-few c.args.input.now _ (sym c.in-Done.is ∙ f.ensures.answered))
 
 pub slice_bounds-evaluate_built-end-in-Done-10 : goal.slice_bounds-evaluate_built-end-in-Done-10
 slice_bounds-evaluate_built-end-in-Done-10 c =
     let f = c.decode-decoded in
-    let e = c.answer-in-Done-1.given.1 in
-    let d = decodes-to c.args.input.now _ _ _ _ e f.ensures in
+    let d = decodes-to c.args.input.now _ _ _ _ c.in-Done.is f.ensures in
     sym (length_decoded _ _ _ _ d)
 
 pub evaluate_built-signs-requires : goal.evaluate_built-signs-requires
 evaluate_built-signs-requires c =
     let f = c.decode-decoded in
-    let e = c.answer-in-Done-1.given.1 in
+    let e = c.in-Done.is in
     let d = decodes-to c.args.input.now _ _ _ _ e f.ensures in
     let few = decoded-few c.args.input.now _ d.answered in
     record { built = decoded-built _ _ _ _ d; counted = length_decoded _ _ _ _ d; deficits_room = few.1; kinds_room = few.1; grad_room = few.0 }
 
 pub returns-in-Refused : goal.returns-in-Refused
-returns-in-Refused c = refused_reports c.args.input.now _ (sym c.answer-1.given.1 ∙ c.decode-decoded.ensures.answered)
+returns-in-Refused c = refused_reports c.args.input.now _ (sym c.in-Refused.is ∙ c.decode-decoded.ensures.answered)
 
 pub returns-in-Done : goal.returns-in-Done
 returns-in-Done c =
     let f = c.decode-decoded in
-    let e = c.answer-in-Done-1.given.1 in
+    let e = c.in-Done.is in
     let d = decodes-to c.args.input.now _ _ _ _ e f.ensures in
     done_reports _ _ _ _ d _ _ _ _ c.evaluate_built-signs.ensures

@@ -57,24 +57,24 @@ loop-t-preserved c =
     let ls = a.sq_lengths.now in
     let ds = deficits_of (hinges F ls) in
     elim c.if-marks-t-eq1.branch [
-    then-marks-t-eq1 w ↦
-    let own = w.tri_edge_indices-own in
-    let s = w.tri_sq_lengths-s in
-    let h = w.hinge_at-hinge in
-    let f = w.add_contributions in
-    let e : contributions_of (edge_list own.result) s.result h.result.deficit ≡ contributions F ls ds l.t =
-    ap (λ es. contributions_of es s.result h.result.deficit) own.ensures
-    ∙ ap (λ r. contributions_of (edges_at F l.t) r h.result.deficit) (s.ensures ∙ ap (lengths_at ls) own.ensures)
-    ∙ ap (contributions_of (edges_at F l.t) (tri_lengths F ls l.t)) (ap (λ (u : Hinge). u.deficit) h.ensures ∙ deficit-at F ls l.t (omega (arith, c.loop-t-test.true, length-rows 3 a.counts.triangles a.triangles.now))) in (
-      omega (arith, c.loop-t-test.true),
-      c.if-marks-t-eq1.auto.entries ∙ l.invariant.1,
-      rw w.entries-is (scatter-here nan ◌⊕◌ (contributions F ls ds) a.marks.now l.t a.entries.now l.entries l.invariant.2 (eq-eqb _ _ w.if-marks-t-eq1.true) _ e _ f.ensures),
-    )
-    | else-marks-t-eq1 w ↦ (
-      omega (arith, c.loop-t-test.true),
-      c.if-marks-t-eq1.auto.entries ∙ l.invariant.1,
-      rw w.entries-is (scatter-past nan ◌⊕◌ (contributions F ls ds) a.marks.now l.t a.entries.now l.entries l.invariant.2 (ne_eqb _ _ w.if-marks-t-eq1.false)),
-    )
+      | then-marks-t-eq1 w ↦
+          let own = w.tri_edge_indices-own in
+          let s = w.tri_sq_lengths-s in
+          let h = w.hinge_at-hinge in
+          let f = w.add_contributions in
+          let e : contributions_of (edge_list own.result) s.result h.result.deficit ≡ contributions F ls ds l.t =
+          ap (λ es. contributions_of es s.result h.result.deficit) own.ensures
+          ∙ ap (λ r. contributions_of (edges_at F l.t) r h.result.deficit) (s.ensures ∙ ap (lengths_at ls) own.ensures)
+          ∙ ap (contributions_of (edges_at F l.t) (tri_lengths F ls l.t)) (ap (λ (u : Hinge). u.deficit) h.ensures ∙ deficit-at F ls l.t (omega (arith, c.loop-t-test.true, length-rows 3 a.counts.triangles a.triangles.now))) in (
+            omega (arith, c.loop-t-test.true),
+            c.if-marks-t-eq1.auto.entries ∙ l.invariant.1,
+            rw w.entries-is (scatter-here nan ◌⊕◌ (contributions F ls ds) a.marks.now l.t a.entries.now l.entries l.invariant.2 (eq-eqb _ _ w.if-marks-t-eq1.true) _ e _ f.ensures),
+          )
+      | else-marks-t-eq1 w ↦ (
+        omega (arith, c.loop-t-test.true),
+        c.if-marks-t-eq1.auto.entries ∙ l.invariant.1,
+        rw w.entries-is (scatter-past nan ◌⊕◌ (contributions F ls ds) a.marks.now l.t a.entries.now l.entries l.invariant.2 (ne_eqb _ _ w.if-marks-t-eq1.false)),
+      )
     ]
 
 pub shape_of-entries : goal.shape_of-entries
