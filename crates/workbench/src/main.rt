@@ -6,10 +6,10 @@ ghost use Rattle.std.specs.Prelude.{◌≤◌, length};
 
 use complex::{Built, Counts};
 use length_signs::LengthSigns;
-use printing::{print_double, print_end, print_named, print_number};
+use printing::{print_double, print_end, print_named, print_number, read_full};
 use refusals::Refusal;
 use report::evaluate;
-use std::io::{Read, Result};
+use std::io::Result;
 
 // ---- lines
 
@@ -72,9 +72,9 @@ fn print_gradient(rt: &impl Print, grad: &[f64]) -> Result<()> {
 
 // The longest input that is not refused has 5,604 bytes, so that a longer one is refused by its beginning.
 fn main(rt: HostRuntime) -> Result<()> {
-    let mut input = Vec::new(rt.alloc());
-    rt.stdin().take(8192).read_to_end(&mut input)?;
-    let report = evaluate(&input);
+    let mut buffer = [0u8; 8192];
+    let len = read_full(rt.stdin(), &mut buffer)?;
+    let report = evaluate(&buffer[..len]);
     let answer = report.answer;
     let deficits = report.deficits;
     let kinds = report.kinds;
