@@ -1,5 +1,5 @@
 // What the replay programs share: numbers read from hexadecimal digits, lists filled with them or with a pattern, and what they
-// print alike.
+// read and print alike.
 #![tactic(auto)]
 
 ghost use Rattle.std.specs.Prelude.{◌≡◌, cond, map, ◌+◌, ◌*◌, ◌<◌, ◌≤◌, ltb, length, take, drop};
@@ -9,7 +9,7 @@ ghost use Rattle.replay.specs.Hexadecimal.{digit_of, spelled, number_at};
 ghost use Rattle.replay.specs.Filled.{pattern_at, double_pattern_at, word_in, double_in};
 
 pub use printing::{
-    print_double, print_doubles, print_end, print_named, print_number, print_numbers,
+    print_double, print_doubles, print_end, print_named, print_number, print_numbers, read_full,
 };
 
 // ---- reading

@@ -12,7 +12,7 @@ ghost use Rattle.io.specs.Counts.{IsPrefixLen};
 use complex::Built;
 use refusals::Refusal;
 use replay::{first, print_end, print_named, print_number, print_numbers, read_words, within};
-use std::io::{Read, Result};
+use std::io::Result;
 
 // ---- reading
 
@@ -606,7 +606,7 @@ fn print_lines(rt: &impl Print, text: &[u8]) -> Result<()> {
 }
 
 fn main(rt: HostRuntime) -> Result<()> {
-    let mut text = Vec::new(rt.alloc());
-    rt.stdin().take(65536).read_to_end(&mut text)?;
-    print_lines(&rt, &text)
+    let mut text = [0u8; 65536];
+    let n = replay::read_full(rt.stdin(), &mut text)?;
+    print_lines(&rt, &text[..n])
 }

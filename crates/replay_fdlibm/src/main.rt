@@ -3,7 +3,7 @@
 // name, and the answer's bits, or nan. oracle/fdlibm made stdin and stdout from the C's answers.
 #![tactic(auto)]
 
-use std::io::{Read, Result};
+use std::io::Result;
 
 // What stands for the digits and the end of one line.
 const LINE: usize = 17;
@@ -41,7 +41,7 @@ fn print_lines(rt: &impl Print, text: &[u8]) -> Result<()> {
 }
 
 fn main(rt: HostRuntime) -> Result<()> {
-    let mut text = Vec::new(rt.alloc());
-    rt.stdin().take(65536).read_to_end(&mut text)?;
-    print_lines(&rt, &text)
+    let mut text = [0u8; 65536];
+    let n = replay::read_full(rt.stdin(), &mut text)?;
+    print_lines(&rt, &text[..n])
 }

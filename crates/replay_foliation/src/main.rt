@@ -16,7 +16,7 @@ use foliation::{Lattice, Listed};
 use replay::{
     fill_doubles, fill_numbers, first, print_double, print_end, print_named, print_number, within,
 };
-use std::io::{Read, Result};
+use std::io::Result;
 
 // The lengths of both kinds of line.
 const LISTING: usize = 53;
@@ -481,7 +481,7 @@ fn print_lines(rt: &impl Print, text: &[u8]) -> Result<()> {
 }
 
 fn main(rt: HostRuntime) -> Result<()> {
-    let mut text = Vec::new(rt.alloc());
-    rt.stdin().take(65536).read_to_end(&mut text)?;
-    print_lines(&rt, &text)
+    let mut text = [0u8; 65536];
+    let n = replay::read_full(rt.stdin(), &mut text)?;
+    print_lines(&rt, &text[..n])
 }

@@ -8,7 +8,7 @@ ghost use Rattle.std.specs.Prelude.{◌+◌, ◌<◌, ◌≤◌, length, IfOk};
 
 use lorentzian::{Dihedral, DihedralAnswer};
 use replay::{print_double, print_end};
-use std::io::{Read, Result};
+use std::io::Result;
 
 // The lengths of both kinds of line.
 const SIMPLEX: usize = 189;
@@ -285,7 +285,7 @@ fn print_lines(rt: &impl Print, text: &[u8]) -> Result<()> {
 }
 
 fn main(rt: HostRuntime) -> Result<()> {
-    let mut text = Vec::new(rt.alloc());
-    rt.stdin().take(65536).read_to_end(&mut text)?;
-    print_lines(&rt, &text)
+    let mut text = [0u8; 65536];
+    let n = replay::read_full(rt.stdin(), &mut text)?;
+    print_lines(&rt, &text[..n])
 }

@@ -21,7 +21,7 @@ use lorentzian::HingeType;
 use replay::{
     print_doubles, print_end, print_named, print_number, read_doubles, read_words, within,
 };
-use std::io::{Read, Result};
+use std::io::Result;
 
 // A list of a complex, with the longest room that 8 pentachorons ask for.
 type List = [u32; 240];
@@ -752,7 +752,7 @@ fn print_lines(rt: &impl Print, text: &[u8]) -> Result<()> {
 }
 
 fn main(rt: HostRuntime) -> Result<()> {
-    let mut text = Vec::new(rt.alloc());
-    rt.stdin().take(65536).read_to_end(&mut text)?;
-    print_lines(&rt, &text)
+    let mut text = [0u8; 65536];
+    let n = replay::read_full(rt.stdin(), &mut text)?;
+    print_lines(&rt, &text[..n])
 }
