@@ -1,6 +1,6 @@
 /*
  * The cores for C: the calls of cjapthumi.h over a complex that the caller knows to be built. Link target/staticlib/libexports_built.a,
- * which `rt staticlib exports_built` proves and builds for x86-64 Linux, beside libexports.a.
+ * which `bindings/build` proves and builds for x86-64 Linux, beside libexports.a.
  *
  * What a caller keeps, beside all of cjapthumi.h
  * - The counts and the ten lists are ones for which cjapthumi_check_built has answered 0, those that cjapthumi_from_pentachorons wrote

@@ -46,9 +46,9 @@ short_table c deficits kinds = ltb deficits c.triangles || ltb kinds c.triangles
 -- ---- answers
 
 -- how many hinges, or the refusal
-abbrev pub count_where : Outcome → ℕ → LocalAnswer
-count_where Done n = LocalAnswer.Done n
-count_where (Refused r) n = LocalAnswer.Refused r
+abbrev pub count_by : Outcome → ℕ → LocalAnswer
+count_by Done n = LocalAnswer.Done n
+count_by (Refused r) n = LocalAnswer.Refused r
 
 -- the refusal's number, 0 for an answer
 abbrev pub count_number : LocalAnswer → ℕ

@@ -68,13 +68,13 @@ module _ (n : ℕ) (given : List ℕ) (before : Lists) (done : check_of n given 
         has_edges = has Edge after.edges before.edges refl;
         has_triangles = has Triangle after.triangles before.triangles refl;
         has_tets = has Tet after.tets before.tets refl;
-        tri_to_pents_lem =
+        tri_to_pents =
             subst (λ (ps : List (List ℕ)). holds ps (triangles ps) after.tri_to_pents after.tri_to_pents_starts ≡ true) (sym rows_are)
             (rw (begins-over _ before.tri_to_pents after.tri_to_pents refl, begins-over _ before.tri_to_pents_starts after.tri_to_pents_starts refl) refl);
-        edge_to_tris_lem =
+        edge_to_tris =
             subst (λ (ps : List (List ℕ)). holds (triangles ps) (edges ps) after.edge_to_tris after.edge_to_tris_starts ≡ true) (sym rows_are)
             (rw (begins-over _ before.edge_to_tris after.edge_to_tris refl, begins-over _ before.edge_to_tris_starts after.edge_to_tris_starts refl) refl);
-        edge_to_pents_lem =
+        edge_to_pents =
             subst (λ (ps : List (List ℕ)). holds ps (edges ps) after.edge_to_pents after.edge_to_pents_starts ≡ true) (sym rows_are)
             (rw (begins-over _ before.edge_to_pents after.edge_to_pents refl, begins-over _ before.edge_to_pents_starts after.edge_to_pents_starts refl) refl);
       }

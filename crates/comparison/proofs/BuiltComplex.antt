@@ -39,9 +39,9 @@ pub record IsBuilt (c : Counts) (l : Lists) : Type 0 where
   pub has_edges : HasFaces Edge (pents_in c l.pents) c.edges l.edges
   pub has_triangles : HasFaces Triangle (pents_in c l.pents) c.triangles l.triangles
   pub has_tets : HasFaces Tet (pents_in c l.pents) c.tets l.tets
-  pub tri_to_pents_lem : holds (pents_in c l.pents) (triangles (pents_in c l.pents)) l.tri_to_pents l.tri_to_pents_starts ≡ true
-  pub edge_to_tris_lem : holds (triangles (pents_in c l.pents)) (edges (pents_in c l.pents)) l.edge_to_tris l.edge_to_tris_starts ≡ true
-  pub edge_to_pents_lem : holds (pents_in c l.pents) (edges (pents_in c l.pents)) l.edge_to_pents l.edge_to_pents_starts ≡ true
+  pub tri_to_pents : holds (pents_in c l.pents) (triangles (pents_in c l.pents)) l.tri_to_pents l.tri_to_pents_starts ≡ true
+  pub edge_to_tris : holds (triangles (pents_in c l.pents)) (edges (pents_in c l.pents)) l.edge_to_tris l.edge_to_tris_starts ≡ true
+  pub edge_to_pents : holds (pents_in c l.pents) (edges (pents_in c l.pents)) l.edge_to_pents l.edge_to_pents_starts ≡ true
 
 pub positive : {n : ℕ} → (n ≡ 0 → ⊥) → 0 < n
 positive f = omega arith
@@ -178,9 +178,9 @@ module _ (c : Counts) (l : Lists) where
         has_edges = subst (λ (ps : List (List ℕ)). HasFaces Edge ps c.edges l.edges) sorted (record { count = same.2; front = said (begins-says _ l.edges) b.edges });
         has_triangles = subst (λ (ps : List (List ℕ)). HasFaces Triangle ps c.triangles l.triangles) sorted (record { count = same.3; front = said (begins-says _ l.triangles) b.triangles });
         has_tets = subst (λ (ps : List (List ℕ)). HasFaces Tet ps c.tets l.tets) sorted (record { count = same.4; front = said (begins-says _ l.tets) b.tets });
-        tri_to_pents_lem = subst (λ (ps : List (List ℕ)). holds ps (triangles ps) l.tri_to_pents l.tri_to_pents_starts ≡ true) sorted (rw (b.tri_to_pents, b.tri_to_pents_starts) refl);
-        edge_to_tris_lem = subst (λ (ps : List (List ℕ)). holds (triangles ps) (edges ps) l.edge_to_tris l.edge_to_tris_starts ≡ true) sorted (rw (b.edge_to_tris, b.edge_to_tris_starts) refl);
-        edge_to_pents_lem = subst (λ (ps : List (List ℕ)). holds ps (edges ps) l.edge_to_pents l.edge_to_pents_starts ≡ true) sorted (rw (b.edge_to_pents, b.edge_to_pents_starts) refl);
+        tri_to_pents = subst (λ (ps : List (List ℕ)). holds ps (triangles ps) l.tri_to_pents l.tri_to_pents_starts ≡ true) sorted (rw (b.tri_to_pents, b.tri_to_pents_starts) refl);
+        edge_to_tris = subst (λ (ps : List (List ℕ)). holds (triangles ps) (edges ps) l.edge_to_tris l.edge_to_tris_starts ≡ true) sorted (rw (b.edge_to_tris, b.edge_to_tris_starts) refl);
+        edge_to_pents = subst (λ (ps : List (List ℕ)). holds ps (edges ps) l.edge_to_pents l.edge_to_pents_starts ≡ true) sorted (rw (b.edge_to_pents, b.edge_to_pents_starts) refl);
       }
 
   module _ (b : IsBuilt c l) where
@@ -193,9 +193,9 @@ module _ (c : Counts) (l : Lists) where
     unfolding written holds tri_to_pents edge_to_tris edge_to_pents
     lists_begin =
         let ps = pents_in c l.pents in
-        let t = and-true _ _ b.tri_to_pents_lem in
-        let e = and-true _ _ b.edge_to_tris_lem in
-        let p = and-true _ _ b.edge_to_pents_lem in
+        let t = and-true _ _ b.tri_to_pents in
+        let e = and-true _ _ b.edge_to_tris in
+        let p = and-true _ _ b.edge_to_pents in
         all_begin (written ps) l
         (record {
           pents = passes (begins-says (flat ps) l.pents) (rows-front 5 c.pentachorons l.pents b.long);
@@ -255,13 +255,13 @@ module _ (c : Counts) (l : Lists) (b : IsBuilt c l) where
 
   -- all that the incidence functions ask
   pub built-tri-to-pents : holds (pents_in c l.pents) (triangles_in c l.triangles) l.tri_to_pents l.tri_to_pents_starts ≡ true
-  built-tri-to-pents = rw built-triangles b.tri_to_pents_lem
+  built-tri-to-pents = rw built-triangles b.tri_to_pents
 
   pub built-edge-to-tris : holds (triangles_in c l.triangles) (edges_in c l.edges) l.edge_to_tris l.edge_to_tris_starts ≡ true
-  built-edge-to-tris = rw (built-triangles, built-edges) b.edge_to_tris_lem
+  built-edge-to-tris = rw (built-triangles, built-edges) b.edge_to_tris
 
   pub built-edge-to-pents : holds (pents_in c l.pents) (edges_in c l.edges) l.edge_to_pents l.edge_to_pents_starts ≡ true
-  built-edge-to-pents = rw built-edges b.edge_to_pents_lem
+  built-edge-to-pents = rw built-edges b.edge_to_pents
 
   pub built_pent-edges : (numbers : List ℕ) → begins (numbers_of Edge (pents_in c l.pents)) numbers ≡ true → Tens (edges_in c l.edges) 2 c.pentachorons l.pents numbers
   built_pent-edges numbers e = record { room = b.long; noted = rw (built-edges, ← edge_numbers (pents_in c l.pents)) e }

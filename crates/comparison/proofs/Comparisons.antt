@@ -131,9 +131,9 @@ module _ (c : Counts) (l : Lists) where
         has_edges = said (has-says Edge ps c.edges l.edges) k.1;
         has_triangles = said (has-says Triangle ps c.triangles l.triangles) t.1;
         has_tets = said (has-says Tet ps c.tets l.tets) k.0;
-        tri_to_pents_lem = d.0;
-        edge_to_tris_lem = d.1;
-        edge_to_pents_lem = a.1;
+        tri_to_pents = d.0;
+        edge_to_tris = d.1;
+        edge_to_pents = a.1;
       }
 
   backward : IsBuilt c l → parts ≡ true
@@ -149,9 +149,9 @@ module _ (c : Counts) (l : Lists) where
         passes (has-says Tet ps c.tets l.tets) b.has_tets,
         passes (has-says Edge ps c.edges l.edges) b.has_edges,
         passes (has-says Triangle ps c.triangles l.triangles) b.has_triangles,
-        b.tri_to_pents_lem,
-        b.edge_to_tris_lem,
-        b.edge_to_pents_lem,
+        b.tri_to_pents,
+        b.edge_to_tris,
+        b.edge_to_pents,
       )
       refl
 

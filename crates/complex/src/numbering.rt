@@ -51,8 +51,8 @@ impl Face {
 
     // The faces of a pentachoron, in the order of the Rust's loops, and then zeros.
     fn rows(self, a: u32, b: u32, c: u32, d: u32, e: u32) -> [u32; 30]
-        ensures result_value { rows (width_of self) (count_of self) result ≡ faces_of self (a ∷ b ∷ c ∷ d ∷ e ∷ []) }
-        ensures result_value_2 { drop (width_of self * count_of self) result ≡ replicate (30 - width_of self * count_of self) 0 }
+        ensures faces { rows (width_of self) (count_of self) result ≡ faces_of self (a ∷ b ∷ c ∷ d ∷ e ∷ []) }
+        ensures zeros_after { drop (width_of self * count_of self) result ≡ replicate (30 - width_of self * count_of self) 0 }
     {
         match self {
             Face::Edge => joined(
@@ -73,8 +73,8 @@ impl Face {
     // The faces of the pentachoron at `at`, and then zeros.
     pub fn rows_at(self, pents: &[u32], at: usize) -> [u32; 30]
         requires { at + 5 ≤ length pents.now }
-        ensures result_value { rows (width_of self) (count_of self) result ≡ faces_of self (take 5 (drop at pents.now)) }
-        ensures result_value_2 { drop (width_of self * count_of self) result ≡ replicate (30 - width_of self * count_of self) 0 }
+        ensures faces { rows (width_of self) (count_of self) result ≡ faces_of self (take 5 (drop at pents.now)) }
+        ensures zeros_after { drop (width_of self * count_of self) result ≡ replicate (30 - width_of self * count_of self) 0 }
     {
         self.rows(
             pents[at],

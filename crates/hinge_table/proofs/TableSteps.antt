@@ -29,7 +29,7 @@ use Rattle.hinges.specs.Parts.{Measured}
 use Rattle.hinges.proofs.OnePass.{length-hinges}
 use Rattle.calls.specs.declared.LocalAnswer.{LocalAnswer}
 use Rattle.calls.specs.declared.LocalAnswer.TheVariants.{Done, Refused}
-use Rattle.calls.specs.Calls.{BuiltWith, lengths_check_of, room_check_of, count_where, count_or}
+use Rattle.calls.specs.Calls.{BuiltWith, lengths_check_of, room_check_of, count_by, count_or}
 use Rattle.calls.proofs.BuiltCalls.{built-measured, lengths-passed, room-passed}
 use Rattle.retouch.specs.Retouch.{touched, anew, after}
 use Rattle.hinge_table.specs.Table.{short_records, TableWorked, TableRetouched}
@@ -95,7 +95,7 @@ module _ {o : Outcome} {c : Counts} {l : Lists} {ts : List ℕ} {n records : ℕ
 -- ---- the call
 
 -- the outcome of an answer by an outcome is that one
-outcome-by : (o : Outcome) (n : ℕ) → outcome_of (count_where o n) ≡ o
+outcome-by : (o : Outcome) (n : ℕ) → outcome_of (count_by o n) ≡ o
 outcome-by Outcome.Done n = refl
 outcome-by (Outcome.Refused r) n = refl
 
@@ -116,7 +116,7 @@ module _ {o : Outcome} {c : Counts} {l : Lists} {ts : List ℕ} {n records : ℕ
 
   -- there is room for all of them
   room-begun : o ≡ Outcome.Done → length ts ≡ c.triangles → c.triangles ≤ records
-  room-begun e many = ⊎_elim (λ (h : 0 < c.triangles). begun.ready.room (subst (λ (k : ℕ). 0 < k) (sym (ap (λ (a : LocalAnswer). count_or a 0) (begun.answered ∙ ap (λ (o : Outcome). count_where o (length ts)) e) ∙ many)) h)) (λ (h : c.triangles ≤ 0). omega arith) (lt-or-ge 0 c.triangles)
+  room-begun e many = ⊎_elim (λ (h : 0 < c.triangles). begun.ready.room (subst (λ (k : ℕ). 0 < k) (sym (ap (λ (a : LocalAnswer). count_or a 0) (begun.answered ∙ ap (λ (o : Outcome). count_by o (length ts)) e) ∙ many)) h)) (λ (h : c.triangles ≤ 0). omega arith) (lt-or-ge 0 c.triangles)
 
 -- after the first step the records of the touched triangles are written from the changed lengths
 pub table-retouched : {o : Outcome} {c : Counts} {l : Lists} {n records : ℕ} {answer : LocalAnswer} {pe pt tris : List ℕ} (F : FaceLists) (ls : List Float) (e : ℕ) (x : Float) (table : List Hinge) (ls' : List Float) (table' : List Hinge)

@@ -6,7 +6,7 @@ use Rattle.complex.specs.Builder.{Lists}
 use Rattle.hinges.specs.Parts.{Measured}
 use Rattle.calls.specs.declared.LocalAnswer.{LocalAnswer}
 use Rattle.calls.specs.declared.LocalAnswer.TheVariants.{Done, Refused}
-use Rattle.calls.specs.Calls.{count_where, count_or}
+use Rattle.calls.specs.Calls.{count_by, count_or}
 use Rattle.retouch.specs.Retouch.{after}
 
 -- what is asked where `count` records are written to a table of `records` places: each has a triangle, and where there is one the complex is measured
@@ -18,7 +18,7 @@ pub record Ready (c : Counts) (pents edges triangles items ss pe pt : List ℕ) 
 
 -- what the first step leaves for the records of the triangles ts, where the checks say o: its answer, and three lists of scratch
 pub record Begun (o : Outcome) (c : Counts) (l : Lists) (ts : List ℕ) (n records : ℕ) (answer : LocalAnswer) (pe pt tris : List ℕ) : Type 0 where
-  pub answered : answer ≡ count_where o (length ts)
+  pub answered : answer ≡ count_by o (length ts)
   pub places : take (count_or answer 0) tris ≡ after o ts []
   pub ready : Ready c l.pents l.edges l.triangles l.tri_to_pents l.tri_to_pents_starts pe pt n (count_or answer 0) tris records
 

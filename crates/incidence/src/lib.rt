@@ -163,7 +163,7 @@ fn local_index(numbers: &[u32], n: u32) -> usize
     q
 }
 
-// The three edges of the q_th triangle of a pentachoron, by the numbers of its ten edges.
+// The three edges of the q-th triangle of a pentachoron, by the numbers of its ten edges.
 fn edges_at(ten: &[u32], q: usize) -> TriangleEdges
     requires { (length ten.now ≡ 10) × (q < 10) }
     ensures { edge_list result ≡ edge_at ten.now q 0 ∷ edge_at ten.now q 1 ∷ edge_at ten.now q 2 ∷ [] }

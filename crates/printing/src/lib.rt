@@ -36,7 +36,7 @@ pub struct Text {
 // The bits of x as 16 hexadecimal digits, or nan.
 pub fn double_text(x: f64) -> Text
     ensures prefix_len { IsPrefixLen result.len result.bytes }
-    ensures bytes_value { take result.len result.bytes ≡ text_of x }
+    ensures text { take result.len result.bytes ≡ text_of x }
 {
     let mut bytes = [0u8; 16];
     if floats::is_nan(x) {

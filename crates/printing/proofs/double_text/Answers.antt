@@ -6,9 +6,9 @@ use Rattle.io.specs.Digits.{IsDigitCount}
 use Rattle.printing.specs.Text.{text_of}
 use Rattle.printing.proofs.double_text.Goals as goal
 
-pub returns-then-is_nan-clause-bytes_value : goal.returns-then-is_nan-clause-bytes_value
+pub returns-then-is_nan-clause-text : goal.returns-then-is_nan-clause-text
 unfolding text_of
-returns-then-is_nan-clause-bytes_value c =
+returns-then-is_nan-clause-text c =
     let nan : is_nan c.args.x ≡ true = sym c.is_nan.ensures ∙ c.if-is_nan.true in
     rw nan
 
@@ -22,9 +22,9 @@ sixteen_digits n r h f = elim (eq-or-lt_of_le f.0) [
   | inr l ↦ absurd (lt_irrefl n (lt_of_lt_of_le h (le_trans (pow-le-pow_right (omega arith) (below l)) (f.2 l))))
 ]
 
-pub returns-clause-bytes_value : goal.returns-clause-bytes_value
+pub returns-clause-text : goal.returns-clause-text
 unfolding text_of
-returns-clause-bytes_value c =
+returns-clause-text c =
     let number : is_nan c.args.x ≡ false = sym c.is_nan.ensures ∙ c.if-is_nan.false in
     let sixteen : c.hex-len.result ≡ 16 = sixteen_digits c.bits_of.result c.hex-len.result (search rules) c.hex-len.ensures.len in
     rw number (c.hex-len.ensures.digits ∙ rw (sixteen, c.bits_of.ensures))

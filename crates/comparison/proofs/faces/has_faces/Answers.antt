@@ -122,7 +122,7 @@ returns-then-not-met c = let a = c.args in
     let l = c.loop-k in
     let many = length-met-rows f l.k a.pents.now (omega (arith, p.five)) in
     let below = face-below f l.k P (omega arith) in
-    let told = rw c.rows_at-given.ensures.result_value at (rw count at (rw width at c.match_rows-met.ensures)) in
+    let told = rw c.rows_at-given.ensures.faces at (rw count at (rw width at c.match_rows-met.ensures)) in
     let off = not-true c.match_rows-met.result.same c.if-not-met.true in record {
       value = sym (has-others f a.pents.now a.n_faces a.list.now l.k P (omega arith) (rw (← l.invariant.5.known) (told.no off)));
       numbers_after = (
@@ -142,7 +142,7 @@ loop-k-preserved c = let a = c.args in
     let l = c.loop-k in
     let many = length-met-rows f l.k a.pents.now (omega (arith, p.five)) in
     let below = face-below f l.k P (omega arith) in
-    let told = rw c.rows_at-given.ensures.result_value at (rw count at (rw width at c.match_rows-met.ensures)) in
+    let told = rw c.rows_at-given.ensures.faces at (rw count at (rw width at c.match_rows-met.ensures)) in
     let on = told.yes (not-false c.match_rows-met.result.same c.if-not-met.false) in (
       omega arith,
       c.match_rows-met.auto.next ∙ l.invariant.1,

@@ -68,7 +68,7 @@ loop-k-preserved c =
     let many = length-met-rows f l.k a.pents.now (omega arith) in
     let below = face-below f l.k P (omega arith) in
     let g = c.meet_rows-n in
-    let all = rw c.rows_at-given.ensures.result_value at (rw count at (rw width at g.ensures)) in (
+    let all = rw c.rows_at-given.ensures.faces at (rw count at (rw width at g.ensures)) in (
       omega arith,
       g.auto.list ∙ l.invariant.1,
       g.auto.next ∙ l.invariant.2,

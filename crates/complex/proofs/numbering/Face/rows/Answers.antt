@@ -7,20 +7,20 @@ use Rattle.complex.proofs.numbering.Face.rows.Goals as goal
 pub returns-in-Edge : goal.returns-in-Edge
 unfolding rows combos upto
 returns-in-Edge c = record {
-  result_value = rw (c.in-Edge.is, c.joined.ensures) refl;
-  result_value_2 = rw (c.in-Edge.is, c.joined.ensures) refl;
+  faces = rw (c.in-Edge.is, c.joined.ensures) refl;
+  zeros_after = rw (c.in-Edge.is, c.joined.ensures) refl;
 }
 
 pub returns-in-Triangle : goal.returns-in-Triangle
 unfolding rows combos upto
 returns-in-Triangle c = record {
-  result_value = rw (c.in-Triangle.is, c.joined-in-Triangle.ensures) refl;
-  result_value_2 = rw (c.in-Triangle.is, c.joined-in-Triangle.ensures) refl;
+  faces = rw (c.in-Triangle.is, c.joined-in-Triangle.ensures) refl;
+  zeros_after = rw (c.in-Triangle.is, c.joined-in-Triangle.ensures) refl;
 }
 
 pub returns-in-Tet : goal.returns-in-Tet
 unfolding rows combos upto
 returns-in-Tet c = record {
-  result_value = rw (c.in-Tet.is, c.joined-in-Tet.ensures) refl;
-  result_value_2 = rw (c.in-Tet.is, c.joined-in-Tet.ensures) refl;
+  faces = rw (c.in-Tet.is, c.joined-in-Tet.ensures) refl;
+  zeros_after = rw (c.in-Tet.is, c.joined-in-Tet.ensures) refl;
 }
