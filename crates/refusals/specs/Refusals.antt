@@ -1,8 +1,6 @@
--- The number and the place of each refusal, from the table 'Room and refusals' of the scope paper. Definitions only.
-use Rattle.std.specs.Prelude.{ℕ}
+-- The number and the place of each refusal, and what a call that can be refused answers. Definitions only.
+use Rattle.std.specs.Prelude.{ℕ, Result, Ok, Err}
 use Rattle.refusals.specs.declared.Refusal.{Refusal}
-use Rattle.refusals.specs.declared.Outcome.{Outcome}
-use Rattle.refusals.specs.declared.Outcome.TheVariants.{Done, Refused}
 use Rattle.refusals.specs.declared.Refusal.TheVariants.{VertexCount, ListLength, VertexTooLarge, RepeatedVertex, ShortRoom, LatticeSize, NotBuilt, LengthCount, EdgeTooLarge, RepeatedEdge, BadIndex, BadInput, TooManyPentachorons}
 
 -- the number of the condition that is broken
@@ -37,7 +35,32 @@ place_of BadIndex = 0
 place_of BadInput = 0
 place_of TooManyPentachorons = 0
 
+-- ---- answers
+
+-- what a call says that writes its answer to a lent buffer, or a check: a refusal, or nothing
+abbrev pub Outcome : Type 0
+Outcome = Result (Unit {0}) Refusal
+
+-- no refusal
+abbrev pub Done : Outcome
+Done = Ok (tt {0})
+
+-- the answer x of a call whose checks say o
+abbrev pub answer_by : {A : Type 0} → Outcome → A → Result A Refusal
+answer_by (Ok u) x = Ok x
+answer_by (Err r) x = Err r
+
 -- the refusal's number, 0 where the call answered
-abbrev pub outcome_number : Outcome → ℕ
-outcome_number Done = 0
-outcome_number (Refused r) = number_of r
+abbrev pub number_in : {A : Type 0} → Result A Refusal → ℕ
+number_in (Ok x) = 0
+number_in (Err r) = number_of r
+
+-- the refusal's place, 0 where the call answered
+abbrev pub place_in : {A : Type 0} → Result A Refusal → ℕ
+place_in (Ok x) = 0
+place_in (Err r) = place_of r
+
+-- the answer, or another value for a refusal
+abbrev pub value_or : {A : Type 0} → Result A Refusal → A → A
+value_or (Ok x) other = x
+value_or (Err r) other = other

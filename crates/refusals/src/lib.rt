@@ -1,11 +1,11 @@
-// The refusals of all layers, with the number and the place that the scope paper's table gives each.
-// Nothing else matches on the cases, so that a new one costs this crate alone.
+// The refusals of all layers, each with the number that C is given and the pentachoron that it names. A call that can be refused
+// answers a `Result` with a `Refusal` as its error. Nothing else matches on the cases, so that a new one costs this crate alone.
 #![tactic(auto)]
 
 ghost use Rattle.std.specs.Prelude.{◌≡◌};
-ghost use Rattle.refusals.specs.Refusals.{number_of, place_of, outcome_number};
+ghost use Rattle.refusals.specs.Refusals.{number_of, place_of, number_in, place_in};
 
-#[derive(Clone, Copy)]
+#[derive(Clone, Copy, Debug, PartialEq, Eq)]
 pub enum Refusal {
     // The vertex count is 0 or above 4,096.
     VertexCount,
@@ -62,38 +62,27 @@ impl Refusal {
         ensures { result ≡ place_of self }
     {
         match self {
-            Refusal::VertexCount => 0,
-            Refusal::ListLength => 0,
             Refusal::VertexTooLarge(pentachoron) => pentachoron,
             Refusal::RepeatedVertex(pentachoron) => pentachoron,
-            Refusal::ShortRoom => 0,
-            Refusal::LatticeSize => 0,
-            Refusal::NotBuilt => 0,
-            Refusal::LengthCount => 0,
-            Refusal::EdgeTooLarge => 0,
-            Refusal::RepeatedEdge => 0,
-            Refusal::BadIndex => 0,
-            Refusal::BadInput => 0,
-            Refusal::TooManyPentachorons => 0,
+            _ => 0,
         }
     }
 }
 
-// What a call says that writes its answer to a lent buffer.
-#[derive(Clone, Copy)]
-pub enum Outcome {
-    Done,
-    Refused(Refusal),
+// The number of an answer's refusal, 0 where the call answered.
+pub fn number_in<T>(answer: &Result<T, Refusal>) -> u32
+    ensures { result ≡ number_in answer.now }
+{
+    match answer {
+        Ok(_) => 0,
+        Err(refusal) => refusal.number(),
+    }
 }
 
-impl Outcome {
-    // The refusal's number, 0 where the call answered.
-    pub fn number(self) -> u32
-        ensures { result ≡ outcome_number self }
-    {
-        match self {
-            Outcome::Done => 0,
-            Outcome::Refused(refusal) => refusal.number(),
-        }
-    }
+// The place of an answer's refusal, 0 where the call answered.
+pub fn place_in<T>(answer: &Result<T, Refusal>) -> usize
+    ensures { result ≡ place_in answer.now }
+{
+    let Err(refusal) = answer else { return 0 };
+    refusal.place()
 }
