@@ -7,7 +7,7 @@ ghost use Rattle.complex.specs.Builder.{lists};
 ghost use Rattle.complex.specs.Lent.{lists_of};
 ghost use Rattle.boundary.specs.Counts.{counts_of_list, counts_list};
 
-use complex::{Adjacency, Complex, Counts};
+use complex::{AdjacencyList, Complex, Counts};
 
 // Five numbers as counts.
 pub fn counts_of(c: [usize; 5]) -> Counts
@@ -54,15 +54,15 @@ pub fn complex_of<'a>(
         edges,
         triangles,
         tets,
-        tri_to_pents: Adjacency {
+        tri_to_pents: AdjacencyList {
             items: tri_to_pents_items,
             starts: tri_to_pents_starts,
         },
-        edge_to_tris: Adjacency {
+        edge_to_tris: AdjacencyList {
             items: edge_to_tris_items,
             starts: edge_to_tris_starts,
         },
-        edge_to_pents: Adjacency {
+        edge_to_pents: AdjacencyList {
             items: edge_to_pents_items,
             starts: edge_to_pents_starts,
         },

@@ -6,7 +6,7 @@ ghost use Rattle.complex.specs.Check.{holds};
 ghost use Rattle.comparison.specs.CheckParts.{lying, part_lies};
 ghost use Rattle.comparison.specs.Parts.{Holdable};
 
-use complex::{Adjacency, has};
+use complex::{AdjacencyList, has};
 
 // How many numbers a row of a flat list has, and how many rows there are.
 #[derive(Clone, Copy)]
@@ -62,7 +62,7 @@ fn part_lies(
     key: &[u32],
     list: &[u32],
     shape: Shape,
-    adjacency: &Adjacency<'_>,
+    adjacency: &AdjacencyList<'_>,
     j: usize,
 ) -> bool
     requires { (shape.width * shape.count ≤ length list.now) × (j + 1 < length adjacency.now.starts.now) }
@@ -83,7 +83,7 @@ pub fn is_holding(
     key_shape: Shape,
     list: &[u32],
     shape: Shape,
-    adjacency: &Adjacency<'_>,
+    adjacency: &AdjacencyList<'_>,
     total: usize,
 ) -> bool
     requires { Holdable keys.now key_shape list.now shape total }

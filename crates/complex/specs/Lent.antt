@@ -2,8 +2,8 @@
 use Rattle.std.specs.Prelude.{ℕ, List, ◌≡◌, true}
 use Rattle.lists.specs.Rows.{flat, starts, over}
 use Rattle.lists.specs.Groups.{groups}
-use Rattle.complex.specs.declared.Adjacency.{Adjacency}
-use Rattle.complex.specs.declared.AdjacencyMut.{AdjacencyMut}
+use Rattle.complex.specs.declared.AdjacencyList.{AdjacencyList}
+use Rattle.complex.specs.declared.AdjacencyListMut.{AdjacencyListMut}
 use Rattle.complex.specs.declared.Complex.{Complex}
 use Rattle.complex.specs.declared.ListsMut.{ListsMut}
 use Rattle.complex.specs.Builder.{Lists, lists}
@@ -30,7 +30,7 @@ abbrev pub triangles_of : Complex → List (List ℕ)
 triangles_of x = triangles_in x.counts x.triangles.now
 
 -- an adjacency list begins with the numbers of the rows in which each key lies
-abbrev pub IsHolding : List (List ℕ) → List (List ℕ) → Adjacency → Type 0
+abbrev pub IsHolding : List (List ℕ) → List (List ℕ) → AdjacencyList → Type 0
 IsHolding rs keys a = holds rs keys a.items.now a.starts.now ≡ true
 
 -- ---- lists that are written
@@ -42,7 +42,7 @@ lists_in l =
     l.edge_to_tris.items.now l.edge_to_tris.starts.now l.edge_to_pents.items.now l.edge_to_pents.starts.now
 
 -- an adjacency list is written to where it was lent
-pub record SameAdjacency (a b : AdjacencyMut) : Type 0 where
+pub record SameAdjacencyList (a b : AdjacencyListMut) : Type 0 where
   pub items : b.items.ghost_name ≡ a.items.ghost_name
   pub starts : b.starts.ghost_name ≡ a.starts.ghost_name
 
@@ -52,10 +52,10 @@ pub record SameLists (a b : ListsMut) : Type 0 where
   pub edges : b.edges.ghost_name ≡ a.edges.ghost_name
   pub triangles : b.triangles.ghost_name ≡ a.triangles.ghost_name
   pub tets : b.tets.ghost_name ≡ a.tets.ghost_name
-  pub tri_to_pents : SameAdjacency a.tri_to_pents b.tri_to_pents
-  pub edge_to_tris : SameAdjacency a.edge_to_tris b.edge_to_tris
-  pub edge_to_pents : SameAdjacency a.edge_to_pents b.edge_to_pents
+  pub tri_to_pents : SameAdjacencyList a.tri_to_pents b.tri_to_pents
+  pub edge_to_tris : SameAdjacencyList a.edge_to_tris b.edge_to_tris
+  pub edge_to_pents : SameAdjacencyList a.edge_to_pents b.edge_to_pents
 
 -- an adjacency list has, over its beginning, the numbers of the rows of w numbers of a flat list in which each number below m stands
-abbrev pub IsGrouped : ℕ → ℕ → List ℕ → AdjacencyMut → AdjacencyMut → Type 0
+abbrev pub IsGrouped : ℕ → ℕ → List ℕ → AdjacencyListMut → AdjacencyListMut → Type 0
 IsGrouped w m ns a b = (b.items.now ≡ over (flat (groups w m ns)) a.items.now) × (b.starts.now ≡ over (starts (groups w m ns)) a.starts.now)

@@ -1,9 +1,9 @@
 // The adjacency lists, from the numbers of the edges and triangles of each pentachoron.
 ghost use Rattle.std.specs.Prelude.{◌≡◌, ◌*◌, ◌%◌, ◌<◌, length, take};
 ghost use Rattle.complex.specs.Parts.{edge_at, Consistent, EdgesOf, Adjacent};
-ghost use Rattle.complex.specs.Lent.{SameAdjacency, IsGrouped};
+ghost use Rattle.complex.specs.Lent.{SameAdjacencyList, IsGrouped};
 
-use crate::AdjacencyMut;
+use crate::AdjacencyListMut;
 use lists::group;
 
 // Where each triangle's three edges stand among the ten edges of its pentachoron.
@@ -51,9 +51,9 @@ pub fn adjacency(
     n_edges: usize,
     n_tris: usize,
     tri_edges: &mut [u32],
-    tri_to_pents: &mut AdjacencyMut<'_>,
-    edge_to_tris: &mut AdjacencyMut<'_>,
-    edge_to_pents: &mut AdjacencyMut<'_>,
+    tri_to_pents: &mut AdjacencyListMut<'_>,
+    edge_to_tris: &mut AdjacencyListMut<'_>,
+    edge_to_pents: &mut AdjacencyListMut<'_>,
 )
     requires { Adjacent pent_edges.now pent_tris.now n_edges n_tris (length tri_edges.old) (record {
       tri_to_pents = length tri_to_pents.old.items.now;
@@ -63,15 +63,33 @@ pub fn adjacency(
       edge_to_pents = length edge_to_pents.old.items.now;
       edge_to_pents_starts = length edge_to_pents.old.starts.now;
     }) }
-    ensures same { SameAdjacency tri_to_pents.old tri_to_pents.new × SameAdjacency edge_to_tris.old edge_to_tris.new
-        × SameAdjacency edge_to_pents.old edge_to_pents.new }
+    ensures same { SameAdjacencyList tri_to_pents.old tri_to_pents.new × SameAdjacencyList edge_to_tris.old edge_to_tris.new
+        × SameAdjacencyList edge_to_pents.old edge_to_pents.new }
     ensures edges { EdgesOf pent_edges.now pent_tris.now tri_edges.new (length pent_tris.now) }
     ensures lists_after { IsGrouped 10 n_tris pent_tris.now tri_to_pents.old tri_to_pents.new
         × IsGrouped 3 n_edges (take (3 * n_tris) tri_edges.new) edge_to_tris.old edge_to_tris.new
         × IsGrouped 10 n_edges pent_edges.now edge_to_pents.old edge_to_pents.new }
 {
     edges_of_triangles(pent_edges, pent_tris, tri_edges);
-    group(pent_tris, 10, n_tris, tri_to_pents.items, tri_to_pents.starts);
-    group(&tri_edges[..3 * n_tris], 3, n_edges, edge_to_tris.items, edge_to_tris.starts);
-    group(pent_edges, 10, n_edges, edge_to_pents.items, edge_to_pents.starts);
+    group(
+        pent_tris,
+        10,
+        n_tris,
+        tri_to_pents.items,
+        tri_to_pents.starts,
+    );
+    group(
+        &tri_edges[..3 * n_tris],
+        3,
+        n_edges,
+        edge_to_tris.items,
+        edge_to_tris.starts,
+    );
+    group(
+        pent_edges,
+        10,
+        n_edges,
+        edge_to_pents.items,
+        edge_to_pents.starts,
+    );
 }

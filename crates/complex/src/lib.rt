@@ -25,7 +25,7 @@ pub struct Counts {
 
 // For each key the numbers of the rows in which it lies, ascending, one key after the other, and where those of each key start.
 #[derive(Clone, Copy)]
-pub struct Adjacency<'a> {
+pub struct AdjacencyList<'a> {
     pub items: &'a [u32],
     pub starts: &'a [u32],
 }
@@ -38,9 +38,9 @@ pub struct Complex<'a> {
     pub edges: &'a [u32],
     pub triangles: &'a [u32],
     pub tets: &'a [u32],
-    pub tri_to_pents: Adjacency<'a>,
-    pub edge_to_tris: Adjacency<'a>,
-    pub edge_to_pents: Adjacency<'a>,
+    pub tri_to_pents: AdjacencyList<'a>,
+    pub edge_to_tris: AdjacencyList<'a>,
+    pub edge_to_pents: AdjacencyList<'a>,
 }
 
 // The numbers of the ten edges and of the ten triangles of each pentachoron.
@@ -52,7 +52,7 @@ pub struct Incidence<'a> {
 
 // An adjacency list that is lent to be written.
 #[derive(Drop)]
-pub struct AdjacencyMut<'a> {
+pub struct AdjacencyListMut<'a> {
     pub items: &'a mut [u32],
     pub starts: &'a mut [u32],
 }
@@ -64,7 +64,7 @@ pub struct ListsMut<'a> {
     pub edges: &'a mut [u32],
     pub triangles: &'a mut [u32],
     pub tets: &'a mut [u32],
-    pub tri_to_pents: AdjacencyMut<'a>,
-    pub edge_to_tris: AdjacencyMut<'a>,
-    pub edge_to_pents: AdjacencyMut<'a>,
+    pub tri_to_pents: AdjacencyListMut<'a>,
+    pub edge_to_tris: AdjacencyListMut<'a>,
+    pub edge_to_pents: AdjacencyListMut<'a>,
 }

@@ -11,7 +11,7 @@ ghost use Rattle.hinges.specs.Hinges.{faces_of, hinges, deficits_of, kinds_of};
 ghost use Rattle.hinges.specs.Action.{gradient};
 ghost use Rattle.report.specs.Report.{Evaluable, Evaluates, Reports};
 
-use complex::{Adjacency, Complex, Counts};
+use complex::{AdjacencyList, Complex, Counts};
 use length_signs::{LengthSigns, length_signs};
 use lorentzian_regge::{lorentzian_deficit_angles, lorentzian_regge_action_grad};
 use packed_input::decode;
@@ -69,15 +69,15 @@ pub fn evaluate(input: &[u8]) -> Report
             edges: &decoded.edges,
             triangles: &decoded.triangles,
             tets: &decoded.tets,
-            tri_to_pents: Adjacency {
+            tri_to_pents: AdjacencyList {
                 items: &decoded.tri_to_pents_items,
                 starts: &decoded.tri_to_pents_starts,
             },
-            edge_to_tris: Adjacency {
+            edge_to_tris: AdjacencyList {
                 items: &decoded.edge_to_tris_items,
                 starts: &decoded.edge_to_tris_starts,
             },
-            edge_to_pents: Adjacency {
+            edge_to_pents: AdjacencyList {
                 items: &decoded.edge_to_pents_items,
                 starts: &decoded.edge_to_pents_starts,
             },
