@@ -29,8 +29,8 @@ pub fn dihedral_at(s: &[f64; 10], at: Opposite) -> Dihedral
     let l = at.l + 1;
     let m = at.m + 1;
     let cm = cm_matrix_signed(s);
-    let c_lm = cofactor_6x6(&cm, l, m).value_or(0.0);
-    let c_ll = cofactor_6x6(&cm, l, l).value_or(0.0);
-    let c_mm = cofactor_6x6(&cm, m, m).value_or(0.0);
+    let c_lm = cofactor_6x6(&cm, l, m).unwrap_or(0.0);
+    let c_ll = cofactor_6x6(&cm, l, l).unwrap_or(0.0);
+    let c_mm = cofactor_6x6(&cm, m, m).unwrap_or(0.0);
     compute_dihedral(c_lm, c_ll, c_mm)
 }
