@@ -27,6 +27,10 @@ hash-below s = go s 0 (omega arith)
     go [] h l = l
     go (v ∷ s) h l = go s (mix h v) (omega arith)
 
+-- a row's chain has its head
+pub head-fits : {ks : List (List ℕ)} {h x : List ℕ} (s : List ℕ) (chain : ℕ) → Indexed ks h x → chain ≡ hash s → chain < length h
+head-fits s chain ix e = omega (arith, e, ix.chains, hash-below s)
+
 -- one number more
 pub hash-snoc : (s : List ℕ) (i : ℕ) → i < length s → mix (hash (take i s)) (get_or s i 0) ≡ hash (take (i + 1) s)
 unfolding hash

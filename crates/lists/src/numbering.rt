@@ -20,8 +20,16 @@ pub fn same_row(list: &[u32], at: usize, row: &[u32]) -> bool
     requires { at + length row.now ≤ length list.now }
     ensures { result ≡ eqs row.now (take (length row.now) (drop at list.now)) }
 {
-    row == &list[at..at + row.len()]
+    // A slice's `==` is a call of the library's search for each row, which takes the builder a seventh longer.
+    for (i, v) in row.iter().enumerate() {
+        if *v != list[at + i] {
+            return false;
+        }
+    }
+    true
 }
+
+// The list, `head` and `next` are parameters of their own here and below: each is lent by itself, in fixed memory of a caller or of C.
 
 // The number of `row`, which is in this chain, among the first n rows of its width; n where it is not there.
 pub fn find_row(
@@ -36,6 +44,7 @@ pub fn find_row(
     ensures { result ≡ find row.now (rows (length row.now) n list.now) }
 {
     let w = row.len();
+    // A walk by links and no count: `head` and `next` have 1 + a row, and 0 where a chain ends.
     let mut cur = head[chain] as usize;
     while 0 < cur {
         let k = cur - 1;

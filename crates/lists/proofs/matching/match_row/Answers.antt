@@ -5,7 +5,7 @@ use native.Mathlib.Omega.{arith}
 use lib.ListN.{length}
 use Rattle.lists.specs.Chains.{hash}
 use Rattle.lists.specs.Rows.{rows}
-use Rattle.lists.proofs.Chains.{hash-below}
+use Rattle.lists.proofs.Chains.{head-fits}
 use Rattle.lists.proofs.Keys.{find-le}
 use Rattle.lists.proofs.Matches.{next-room, compared-old, compared-full, compared-other, compared-new}
 use Rattle.lists.proofs.Rows.{length-rows}
@@ -35,8 +35,7 @@ returns-then-not-same_row c =
 pub link_row-requires : goal.link_row-requires
 link_row-requires c =
     let p = c.requires in
-    let chain : c.chain_of-chain.result ≡ hash c.args.row.now = c.chain_of-chain.ensures in
-    (omega (arith, p.indexed.chains, hash-below c.args.row.now), omega (arith, p.links, p.known), omega (arith, p.few, p.known))
+    (head-fits c.args.row.now c.chain_of-chain.result p.indexed c.chain_of-chain.ensures, omega (arith, p.links, p.known), omega (arith, p.few, p.known))
 
 pub returns : goal.returns
 returns c =

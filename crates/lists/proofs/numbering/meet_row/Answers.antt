@@ -7,7 +7,7 @@ use native.Mathlib.Omega.{arith}
 use lib.ListN.{length}
 use Rattle.lists.specs.Chains.{hash}
 use Rattle.lists.specs.Rows.{rows}
-use Rattle.lists.proofs.Chains.{hash-below, met-old, met-new}
+use Rattle.lists.proofs.Chains.{head-fits, met-old, met-new}
 use Rattle.lists.proofs.Keys.{find-le}
 use Rattle.lists.proofs.Rows.{length-rows}
 use Rattle.lists.proofs.numbering.meet_row.Goals as goal
@@ -27,8 +27,7 @@ returns-then-k-n c =
 pub link_row-requires : goal.link_row-requires
 link_row-requires c =
     let p = c.requires in
-    let chain : c.chain_of-chain.result ≡ hash c.args.row.now = c.chain_of-chain.ensures in
-    (omega (arith, p.indexed.chains, hash-below c.args.row.now), omega (arith, p.links), omega (arith, p.few))
+    (head-fits c.args.row.now c.chain_of-chain.result p.indexed c.chain_of-chain.ensures, omega (arith, p.links), omega (arith, p.few))
 
 pub returns : goal.returns
 returns c =
