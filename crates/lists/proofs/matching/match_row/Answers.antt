@@ -1,5 +1,4 @@
 -- `lists::matching::match_row` meets its contract. Assumes nothing.
-use Prim.Native.Nat.{◌*◌, ◌≤◌}
 use mathlib.Core.Path.{◌≡◌, refl, sym, ◌∙◌}
 use native.Mathlib.Omega.{arith}
 use lib.ListN.{length}
@@ -7,7 +6,7 @@ use Rattle.lists.specs.Chains.{hash}
 use Rattle.lists.specs.Rows.{rows}
 use Rattle.lists.proofs.Chains.{head-fits}
 use Rattle.lists.proofs.Keys.{find-le}
-use Rattle.lists.proofs.Matches.{next-room, compared-old, compared-full, compared-other, compared-new}
+use Rattle.lists.proofs.Matches.{compared-old, compared-full, compared-other, compared-new}
 use Rattle.lists.proofs.Rows.{length-rows}
 use Rattle.lists.proofs.matching.match_row.Goals as goal
 

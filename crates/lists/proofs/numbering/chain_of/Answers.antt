@@ -1,8 +1,8 @@
 -- `lists::numbering::chain_of` meets its contract. The loop's invariant: h is the hash of the numbers so far. Assumes nothing.
 use mathlib.Core.Path.{refl, ◌∙◌}
 use native.Mathlib.Omega.{arith}
-use lib.ListN.{take, get_or}
-use Rattle.lists.specs.Chains.{hash, mix}
+use lib.ListN.{take}
+use Rattle.lists.specs.Chains.{hash}
 use Rattle.lists.proofs.Chains.{hash-below, hash-snoc, hash-take}
 use Rattle.lists.proofs.numbering.chain_of.Goals as goal
 

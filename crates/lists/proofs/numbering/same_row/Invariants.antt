@@ -1,5 +1,5 @@
 -- `lists::numbering::same_row` meets its contract. The loop's invariant: the rest decides. Assumes nothing.
-use Prim.Native.Nat.{◌+◌, ◌-◌, ◌≤◌}
+use Prim.Native.Nat.{◌+◌, ◌-◌}
 use mathlib.Core.Path.{◌≡◌}
 use lib.ListN.{length, take, drop}
 use Rattle.lists.specs.Keys.{eqs}
