@@ -3,18 +3,15 @@ use mathlib.Core.Path.{◌≡◌, refl, sym, ◌∙◌}
 use native.Mathlib.Omega.{arith}
 use lib.ListN.{length}
 use Rattle.lists.specs.Chains.{hash}
-use Rattle.lists.specs.Rows.{rows}
-use Rattle.lists.proofs.Chains.{head-fits}
-use Rattle.lists.proofs.Keys.{find-le}
+use Rattle.lists.proofs.Chains.{head-fits, number-le}
 use Rattle.lists.proofs.Matches.{compared-old, compared-full, compared-other, compared-new}
-use Rattle.lists.proofs.Rows.{length-rows}
 use Rattle.lists.proofs.matching.match_row.Goals as goal
 
 pub overflow_cast-numbers : goal.overflow_cast-numbers
 overflow_cast-numbers c =
     let a = c.args in
     let p = c.requires in
-    omega (arith, c.find_row-k.ensures, find-le a.row.now (rows (length a.row.now) a.n a.list.now), length-rows (length a.row.now) a.n a.list.now, p.known, p.few)
+    omega (arith, c.find_row-k.ensures, number-le (length a.row.now) a.list.now a.n a.row.now, p.known, p.few)
 
 pub returns-then-k-n : goal.returns-then-k-n
 returns-then-k-n c =

@@ -1,7 +1,6 @@
 -- `lists::numbering::same_row` meets its contract. The loop's invariant: the rest decides. Assumes nothing.
 use Prim.Native.Nat.{◌-◌, ◌≤◌}
 use mathlib.Core.Path.{◌≡◌, refl, sym, ◌∙◌}
-use native.Mathlib.Nat.{sub-zero, add-zero}
 use native.Mathlib.Omega.{arith}
 use lib.ListN.{drop_of_length-le}
 use lib.ListN.{length}
@@ -9,9 +8,6 @@ use borrow.Author.Tests.{eq-eqb, ne_eqb}
 use Rattle.lists.specs.Keys.{eqs}
 use Rattle.lists.proofs.Chains.{eqs-turn}
 use Rattle.lists.proofs.numbering.same_row.Goals as goal
-
-pub loop-i-init : goal.loop-i-init
-loop-i-init c = rw (sub-zero, add-zero) refl
 
 pub returns-then-v-list : goal.returns-then-v-list
 returns-then-v-list c =
