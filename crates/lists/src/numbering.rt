@@ -1,4 +1,5 @@
 // Rows of one width in a flat list. Each row is in the chain that its hash names, and a chain is walked from its last row.
+// The list, `head` and `next` stay parameters of their own: each is lent by itself, in fixed memory of a caller or of C.
 ghost use Rattle.std.specs.Prelude.{◌≡◌, [], ◌∷◌, ◌++◌, ◌+◌, ◌*◌, ◌≤◌, ◌<◌, length, slice_index, slice_set, take, drop};
 ghost use Rattle.lists.specs.Keys.{eqs, find};
 ghost use Rattle.lists.specs.Rows.{rows};
@@ -28,8 +29,6 @@ pub fn same_row(list: &[u32], at: usize, row: &[u32]) -> bool
     }
     true
 }
-
-// The list, `head` and `next` are parameters of their own here and below: each is lent by itself, in fixed memory of a caller or of C.
 
 // The number of `row`, which is in this chain, among the first n rows of its width; n where it is not there.
 pub fn find_row(
@@ -115,6 +114,7 @@ pub fn meet_rows(
     ensures { Met w list.old list.new head.new next.new numbers.old numbers.new n at (rows w count given.now) result }
 {
     let mut m = n;
+    // No `chunks_exact`: w may be 0.
     for q in 0..count {
         let from = w * q;
         m = meet_row(list, head, next, m, &given[from..from + w], numbers, at + q);
