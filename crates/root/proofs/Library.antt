@@ -1,5 +1,5 @@
 -- `root_of` is the library's root of binary64, `sqrt`: both round the root of the same number of units. Assumes nothing.
-use Rattle.std.proofs.Common.{◌≡◌, ℕ, zero, suc, ◌+◌, ◌-◌, ◌*◌, ◌/◌, ◌%◌, ◌^◌, ◌<◌, ◌≤◌, Bool, true, false, not, cond, T, leb, eqb, ℤ, pos, negsuc, sym, refl, ap, ◌∙◌, subst, ⊎_elim, le_trans, le_of_eq, lt_of_lt_of_le, lt_of_le_of_lt, mul-le-mul_right, mul_assoc, add-mul, mul-lt-mul_of_pos_right, mul-pos, mul-div_cancel, lt_of_not-le, not-le_of_lt, zero-lt-suc, arith, leb→le, pow_pos, pow_mono, pow-add}
+use Rattle.std.proofs.Common.{◌≡◌, ℕ, zero, suc, ◌+◌, ◌-◌, ◌*◌, ◌/◌, ◌%◌, ◌^◌, ◌<◌, ◌≤◌, Bool, true, false, not, cond, T, eqb, ℤ, pos, negsuc, sym, refl, ap, ◌∙◌, subst, ⊎_elim, le_trans, le_of_eq, lt_of_lt_of_le, lt_of_le_of_lt, mul-le-mul_right, mul_assoc, add-mul, mul-lt-mul_of_pos_right, mul-pos, mul-div_cancel, lt_of_not-le, not-le_of_lt, zero-lt-suc, arith, leb→le, pow_pos, pow_mono, pow-add}
 use Prim.Native.Nat.{compare, Ordering}
 use native.Mathlib.Nat.{mul-mul-mul_comm, mul_comm, mul_right_comm, pow-succ', le-div_iff_mul-le, div-lt_iff_lt-mul}
 use native.Mathlib.Numerals.{add-one}
@@ -10,11 +10,11 @@ use lib.Ieee.Exact.{HasValue, units_val}
 use lib.Ieee.Fits.{up_pos, down_pos, round_is, sqrt-fits}
 use lib.Ieee.Digits.{size-lt, size-le}
 use lib.Ieee.Root.{whole_part}
-use Rattle.floats.specs.Units.{count, Plain}
+use Rattle.floats.specs.Units.{count}
 use Rattle.floats.proofs.Units.{count-exact, value→count, same_count, shifted}
 use Rattle.root.specs.Root.{root_of}
 use Rattle.root.proofs.Floor.{Floor, below_root, square_le, four-pow}
-use Rattle.root.proofs.Nearest.{Digits, Result, result, plain-of-value, le-or-lt, some}
+use Rattle.root.proofs.Nearest.{Digits, result, plain-of-value, le-or-lt, some}
 
 -- ---- twice a root
 
