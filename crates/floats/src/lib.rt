@@ -27,7 +27,7 @@ pub fn is_nan(x: f64) -> bool
     x.is_nan()
 }
 
-// x's bit pattern, with one pattern for every NaN, of which the library's method asks for none.
+// x's bit pattern, with one pattern for every NaN. The library's method may not be called at a NaN.
 pub fn bits_of(x: f64) -> u64
     ensures { result ≡ to_bits binary64 x }
 {
