@@ -1,11 +1,11 @@
 -- What a caller of the cores holds: a complex that `check_built` has accepted, with the numbers that it wrote, is what a core asks for. Assumes nothing.
+use Rattle.refusals.specs.Refusals.{Done}
 use Prim.Native.Nat.{ℕ}
 use mathlib.Core.Path.{◌≡◌, sym}
 use mathlib.Core.Bool.{true, not}
 use mathlib.Core.List.{List}
 use borrow.Author.Tests.{not-false}
 use Rattle.refusals.specs.declared.Refusal.TheVariants.{NotBuilt}
-use Rattle.refusals.specs.declared.Outcome.TheVariants.{Done}
 use Rattle.lists.proofs.Rows.{begins-over}
 use Rattle.complex.specs.declared.Counts.{Counts}
 use Rattle.complex.specs.Builder.{Lists}

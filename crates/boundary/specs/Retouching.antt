@@ -1,7 +1,6 @@
 -- The retouch as it is exported: refusals in plain numbers. Definitions only.
+use Rattle.refusals.specs.Refusals.{Outcome, number_in}
 use Rattle.std.specs.Prelude.{ℕ, List, ◌≡◌, Float, length}
-use Rattle.refusals.specs.declared.Outcome.{Outcome}
-use Rattle.refusals.specs.Refusals.{outcome_number}
 use Rattle.complex.specs.Builder.{Lists}
 use Rattle.calls.specs.Calls.{room_check_of, short_table}
 use Rattle.retouch.specs.Retouch.{edge_check_of, Retouched}
@@ -12,4 +11,4 @@ use Rattle.boundary.specs.Hinges.{faces_lent, Before, call_check_of}
 pub record TableRetouch (first : Before) (counts : List ℕ) (l : Lists) (ls : List Float) (e : ℕ) (x : Float) (ds : List Float) (ks : List ℕ) (r : ℕ) (ls' ds' : List Float) (ks' : List ℕ) : Type 0 where
   pub answer : Outcome
   pub retouched : Retouched (call_check_of first counts l ls (edge_check_of (counts_of_list counts) e (room_check_of (short_table (counts_of_list counts) (length ds) (length ks))))) (faces_lent counts l) ls e x ds ks answer ls' ds' ks'
-  pub numbered : r ≡ outcome_number answer
+  pub numbered : r ≡ number_in answer

@@ -1,10 +1,13 @@
-// What the two libraries that C calls share: counts of a complex as five plain numbers, and in specs/ what the contracts of both cite.
+// What the two libraries that C calls share: a complex of plain lists, its counts as five plain numbers, and in specs/ what the contracts
+// of both cite.
 #![tactic(auto)]
 
 ghost use Rattle.std.specs.Prelude.{◌≡◌};
+ghost use Rattle.complex.specs.Builder.{lists};
+ghost use Rattle.complex.specs.Lent.{lists_of};
 ghost use Rattle.boundary.specs.Counts.{counts_of_list, counts_list};
 
-use complex::Counts;
+use complex::{AdjacencyList, Complex, Counts};
 
 // Five numbers as counts.
 pub fn counts_of(c: [usize; 5]) -> Counts
@@ -24,4 +27,44 @@ pub fn counts_list(c: Counts) -> [usize; 5]
     ensures { result ≡ counts_list c }
 {
     [c.vertices, c.pentachorons, c.edges, c.triangles, c.tets]
+}
+
+// The complex of counts and lists, as C lends them one by one.
+pub fn complex_of<'a>(
+    counts: &[usize; 5],
+    pents: &'a [u32],
+    edges: &'a [u32],
+    triangles: &'a [u32],
+    tets: &'a [u32],
+    tri_to_pents_items: &'a [u32],
+    tri_to_pents_starts: &'a [u32],
+    edge_to_tris_items: &'a [u32],
+    edge_to_tris_starts: &'a [u32],
+    edge_to_pents_items: &'a [u32],
+    edge_to_pents_starts: &'a [u32],
+) -> Complex<'a>
+    ensures counts { result.counts ≡ counts_of_list counts.now }
+    ensures lists { lists_of result ≡ lists pents.now edges.now triangles.now tets.now
+        tri_to_pents_items.now tri_to_pents_starts.now edge_to_tris_items.now edge_to_tris_starts.now
+        edge_to_pents_items.now edge_to_pents_starts.now }
+{
+    Complex {
+        counts: counts_of(*counts),
+        pents,
+        edges,
+        triangles,
+        tets,
+        tri_to_pents: AdjacencyList {
+            items: tri_to_pents_items,
+            starts: tri_to_pents_starts,
+        },
+        edge_to_tris: AdjacencyList {
+            items: edge_to_tris_items,
+            starts: edge_to_tris_starts,
+        },
+        edge_to_pents: AdjacencyList {
+            items: edge_to_pents_items,
+            starts: edge_to_pents_starts,
+        },
+    }
 }

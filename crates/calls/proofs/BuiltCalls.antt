@@ -1,4 +1,6 @@
 -- What a call over a complex has where its checks let it pass, and what it answers where they don't. Assumes nothing.
+use Rattle.refusals.specs.Refusals.{Done, Outcome}
+use Rattle.std.specs.Prelude.{Err}
 use Prim.Native.Nat.{ℕ, ◌*◌, ◌≤◌, ◌<◌}
 use mathlib.Core.Bool.{Bool, true, false, not, cond}
 use mathlib.Core.List.{List, map, Memᴰ}
@@ -10,8 +12,6 @@ use lib.ListN.{length}
 use borrow.Author.Tests.{eqb-true, ltb-true, not-false}
 use Rattle.refusals.specs.declared.Refusal.{Refusal}
 use Rattle.refusals.specs.declared.Refusal.TheVariants.{ShortRoom, NotBuilt, LengthCount, BadIndex}
-use Rattle.refusals.specs.declared.Outcome.{Outcome}
-use Rattle.refusals.specs.declared.Outcome.TheVariants.{Done, Refused}
 use Rattle.lists.specs.Lists.{upto}
 use Rattle.lists.specs.Groups.{Below}
 use Rattle.lists.proofs.Tests.{said}
@@ -96,7 +96,7 @@ unfolding room_check_of
 room-passed short h = (cond-done short ShortRoom Done h).0
 
 -- an output that is short, and one that is not
-pub room-short : room_check_of true ≡ Refused ShortRoom
+pub room-short : room_check_of true ≡ Err ShortRoom
 unfolding room_check_of
 room-short = refl
 
@@ -105,14 +105,14 @@ unfolding room_check_of
 room-enough = refl
 
 -- an outcome is not both
-pub done-not-refused : {r : Refusal} → Done ≡ Refused r → ⊥
+pub done-not-refused : {r : Refusal} → Done ≡ Err r → ⊥
 done-not-refused e = let z : ◌≡◌ {A = ℕ} 0 1 = cc in omega arith
 
 pub triangle-passed : (c : Counts) (t : ℕ) → triangle_check_of c t ≡ Done → t < c.triangles
 unfolding triangle_check_of
 triangle-passed c t h = ltb-true t c.triangles (go (ltb t c.triangles) h)
   where
-    go : (b : Bool) → cond b Done (Refused BadIndex) ≡ Done → b ≡ true
+    go : (b : Bool) → cond b Done (Err BadIndex) ≡ Done → b ≡ true
     go true e = refl
     go false e = absurd (done-not-refused (sym e))
 
@@ -123,7 +123,7 @@ not-large-below n free h m l k i = omega (arith, not-large n free h (get_or-mem 
 -- ---- the check of the complex
 
 -- what is not built is refused with 7
-pub not-built : (c : Counts) (l : Lists) (others : Outcome) → is_built c l ≡ false → built_check_of c l others ≡ Refused NotBuilt
+pub not-built : (c : Counts) (l : Lists) (others : Outcome) → is_built c l ≡ false → built_check_of c l others ≡ Err NotBuilt
 unfolding built_check_of
 not-built c l others e = rw e refl
 

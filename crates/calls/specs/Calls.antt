@@ -1,14 +1,12 @@
 -- What calls over a complex and its squared lengths share: when they are refused, a count as their answer, and a list that they fill. Definitions only.
-use Rattle.std.specs.Prelude.{ℕ, Bool, true, not, cond, ◌||◌, List, ◌≡◌, eqb, ltb, Float}
-use Rattle.refusals.specs.Refusals.{number_of}
+use Rattle.refusals.specs.declared.Refusal.{Refusal}
+use Rattle.std.specs.Prelude.{ℕ, Bool, true, not, cond, ◌||◌, List, ◌≡◌, eqb, ltb, Float, Err, Ok, Result}
+use Rattle.refusals.specs.Refusals.{number_of, Done, Outcome, answer_by, number_in, value_or}
 use Rattle.refusals.specs.declared.Refusal.TheVariants.{ShortRoom, NotBuilt, LengthCount, EdgeTooLarge, RepeatedEdge, BadIndex}
-use Rattle.refusals.specs.declared.Outcome.{Outcome}
-use Rattle.refusals.specs.declared.Outcome.TheVariants.{Done, Refused}
 use Rattle.complex.specs.declared.Counts.{Counts}
 use Rattle.complex.specs.Builder.{Lists, too_large, repeats}
 use Rattle.complex.specs.Check.{pents_in, is_built, written_after}
 use Rattle.comparison.specs.Parts.{Noted}
-use Rattle.calls.specs.declared.LocalAnswer.{LocalAnswer}
 
 -- ---- what a core asks
 
@@ -21,44 +19,29 @@ pub record BuiltWith (c : Counts) (l : Lists) (pe pt : List ℕ) : Type 0 where
 
 -- 7 where the complex is not built, then what the other checks say
 unfoldable pub built_check_of : Counts → Lists → Outcome → Outcome
-built_check_of c l others = cond (not (is_built c l)) (Refused NotBuilt) others
+built_check_of c l others = cond (not (is_built c l)) (Err NotBuilt) others
 
 -- 8 where there are not as many lengths as edges, then what the other checks say
 unfoldable pub lengths_check_of : Counts → ℕ → Outcome → Outcome
-lengths_check_of c lengths others = cond (not (eqb lengths c.edges)) (Refused LengthCount) others
+lengths_check_of c lengths others = cond (not (eqb lengths c.edges)) (Err LengthCount) others
 
 -- 9 where a free edge is not below the number of edges, then 10 where one stands twice, then what the other checks say
 unfoldable pub free_check_of : Counts → List ℕ → Outcome → Outcome
-free_check_of c free others = cond (too_large c.edges free) (Refused EdgeTooLarge) (cond (repeats free) (Refused RepeatedEdge) others)
+free_check_of c free others = cond (too_large c.edges free) (Err EdgeTooLarge) (cond (repeats free) (Err RepeatedEdge) others)
 
 -- 5 where an output is short
 unfoldable pub room_check_of : Bool → Outcome
-room_check_of short = cond short (Refused ShortRoom) Done
+room_check_of short = cond short (Err ShortRoom) Done
 
 -- 11 where there is no triangle of that number
 unfoldable pub triangle_check_of : Counts → ℕ → Outcome
-triangle_check_of c t = cond (ltb t c.triangles) Done (Refused BadIndex)
+triangle_check_of c t = cond (ltb t c.triangles) Done (Err BadIndex)
 
 -- a list has fewer places than there are triangles
 abbrev pub short_table : Counts → ℕ → ℕ → Bool
 short_table c deficits kinds = ltb deficits c.triangles || ltb kinds c.triangles
 
 -- ---- answers
-
--- how many hinges, or the refusal
-abbrev pub count_by : Outcome → ℕ → LocalAnswer
-count_by Done n = LocalAnswer.Done n
-count_by (Refused r) n = LocalAnswer.Refused r
-
--- the refusal's number, 0 for an answer
-abbrev pub count_number : LocalAnswer → ℕ
-count_number (LocalAnswer.Done n) = 0
-count_number (LocalAnswer.Refused r) = number_of r
-
--- how many hinges, or another number for a refusal
-abbrev pub count_or : LocalAnswer → ℕ → ℕ
-count_or (LocalAnswer.Done n) other = n
-count_or (LocalAnswer.Refused r) other = other
 
 -- ---- lent lists
 

@@ -1,84 +1,59 @@
-// What calls over a complex share: what is refused beside a complex that is not built, and a count as the answer.
+// What calls over a complex share: a complex that is known to be built, and what is refused beside one that is not.
 #![tactic(auto)]
 
-ghost use Rattle.std.specs.Prelude.{◌≡◌, ◌≤◌};
-ghost use Rattle.calls.specs.Calls.{lengths_check_of, free_check_of, room_check_of, triangle_check_of, count_number, count_or};
+mod built;
 
+ghost use Rattle.std.specs.Prelude.{◌≡◌, ◌≤◌};
+ghost use Rattle.refusals.specs.Refusals.{Done};
+ghost use Rattle.calls.specs.Calls.{lengths_check_of, free_check_of, room_check_of, triangle_check_of};
+
+pub use built::BuiltComplex;
 use complex::{Counts, too_large};
 use incidence::TriangleNumber;
 use marks::stands_twice;
-use refusals::{Outcome, Refusal};
+use refusals::Refusal;
 
-// 8 where there are not as many lengths as edges, then what the other checks say.
-pub fn check_lengths(counts: Counts, lengths: usize, others: Outcome) -> Outcome
-    ensures { result ≡ lengths_check_of counts lengths others }
+// 8 where there are not as many lengths as edges.
+pub fn check_lengths(counts: Counts, lengths: usize) -> Result<(), Refusal>
+    ensures { result ≡ lengths_check_of counts lengths Done }
 {
     if lengths != counts.edges {
-        return Outcome::Refused(Refusal::LengthCount);
+        return Err(Refusal::LengthCount);
     }
-    others
+    Ok(())
 }
 
-// 9 where a free edge is not below the number of edges, then 10 where one stands twice, then what the other checks say.
-pub fn check_free(counts: Counts, free_edges: &[u32], others: Outcome) -> Outcome
+// 9 where a free edge is not below the number of edges, then 10 where one stands twice.
+pub fn check_free(counts: Counts, free_edges: &[u32]) -> Result<(), Refusal>
     requires { counts.edges ≤ 81920 }
-    ensures { result ≡ free_check_of counts free_edges.now others }
+    ensures { result ≡ free_check_of counts free_edges.now Done }
 {
     if too_large(counts.edges, free_edges) {
-        return Outcome::Refused(Refusal::EdgeTooLarge);
+        return Err(Refusal::EdgeTooLarge);
     }
     if stands_twice(free_edges) {
-        return Outcome::Refused(Refusal::RepeatedEdge);
+        return Err(Refusal::RepeatedEdge);
     }
-    others
+    Ok(())
 }
 
 // 5 where an output is short.
-pub fn check_room(short: bool) -> Outcome
+pub fn check_room(short: bool) -> Result<(), Refusal>
     ensures { result ≡ room_check_of short }
 {
     if short {
-        return Outcome::Refused(Refusal::ShortRoom);
+        return Err(Refusal::ShortRoom);
     }
-    Outcome::Done
+    Ok(())
 }
 
 // 11 where there is no triangle of that number.
-pub fn check_triangle(counts: Counts, tri: TriangleNumber) -> Outcome
+pub fn check_triangle(counts: Counts, tri: TriangleNumber) -> Result<(), Refusal>
     ensures { result ≡ triangle_check_of counts tri.0 }
 {
     let t = tri.0 as usize;
     if t < counts.triangles {
-        return Outcome::Done;
+        return Ok(());
     }
-    Outcome::Refused(Refusal::BadIndex)
-}
-
-// How many hinges were written, or why none.
-#[derive(Clone, Copy)]
-pub enum LocalAnswer {
-    Done(usize),
-    Refused(Refusal),
-}
-
-impl LocalAnswer {
-    // The refusal's number, 0 for an answer.
-    pub fn number(self) -> u32
-        ensures { result ≡ count_number self }
-    {
-        match self {
-            LocalAnswer::Done(_) => 0,
-            LocalAnswer::Refused(refusal) => refusal.number(),
-        }
-    }
-
-    // How many hinges, or another number for a refusal.
-    pub fn count_or(self, other: usize) -> usize
-        ensures { result ≡ count_or self other }
-    {
-        match self {
-            LocalAnswer::Done(count) => count,
-            LocalAnswer::Refused(_) => other,
-        }
-    }
+    Err(Refusal::BadIndex)
 }

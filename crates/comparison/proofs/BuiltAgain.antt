@@ -1,4 +1,6 @@
 -- The builder and the definition of a built complex: what the builder leaves is built, and a built complex is what the builder makes of its own pentachoron list. Assumes nothing.
+use Rattle.refusals.specs.Refusals.{Done, Outcome}
+use Rattle.std.specs.Prelude.{Err, Ok}
 use Prim.Native.Nat.{ℕ, ◌*◌, ◌≤◌}
 use mathlib.Core.Path.{◌≡◌, refl, sym, ap, ◌∙◌, subst}
 use mathlib.Core.Bool.{true, false}
@@ -7,12 +9,10 @@ use native.Mathlib.Omega.{arith}
 use lib.Dec.{eqb, ltb}
 use lib.ListN.{length, take, drop, length-append}
 use borrow.Author.Tests.{eqb-false, ltb-false}
-use Rattle.refusals.specs.declared.Outcome.{Outcome}
 use Rattle.lists.specs.Rows.{flat, over, begins}
 use Rattle.lists.proofs.Tests.{said, passes}
 use Rattle.lists.proofs.Rows.{length-rows, length-flat, rows-flat, begins-says, begins-over, over-take, over-begins}
 use Rattle.complex.specs.declared.Counts.{Counts}
-use Rattle.complex.specs.declared.Built.TheVariants.{Done}
 use Rattle.complex.specs.declared.numbering.Face.{Face}
 use Rattle.complex.specs.declared.numbering.Face.TheVariants.{Edge, Triangle, Tet}
 use Rattle.complex.specs.Complex.{faces, edges, triangles, tri_to_pents, edge_to_tris, edge_to_pents}
@@ -26,7 +26,7 @@ use Rattle.comparison.proofs.BuiltComplex.{IsBuilt, built-says, positive, taken-
 
 -- ---- what the builder leaves
 
-module _ (n : ℕ) (given : List ℕ) (before : Lists) (done : check_of n given (rooms_of before) ≡ Outcome.Done) where
+module _ (n : ℕ) (given : List ℕ) (before : Lists) (done : check_of n given (rooms_of before) ≡ Done) where
   qs : List (List ℕ)
   qs = sorted_pents given
 
@@ -80,19 +80,19 @@ module _ (n : ℕ) (given : List ℕ) (before : Lists) (done : check_of n given 
       }
 
 -- an answer of counts is no refusal
-answered-done : (o : Outcome) (n : ℕ) (given : List ℕ) (c : Counts) → Done c ≡ built_of o n given → (o ≡ Outcome.Done) × (c ≡ counts_of n (sorted_pents given))
-answered-done Outcome.Done n given c e = (refl, cc)
-answered-done (Outcome.Refused r) n given c e = absurd (let z : ◌≡◌ {A = ℕ} 0 1 = cc in omega arith)
+answered-done : (o : Outcome) (n : ℕ) (given : List ℕ) (c : Counts) → Ok c ≡ built_of o n given → (o ≡ Done) × (c ≡ counts_of n (sorted_pents given))
+answered-done (Ok u) n given c e = (refl, cc)
+answered-done (Err r) n given c e = absurd (let z : ◌≡◌ {A = ℕ} 0 1 = cc in omega arith)
 
 -- what a builder that answers with counts has answered and left
-pub builder-left : (n : ℕ) (given : List ℕ) (before after : Lists) (c : Counts) → Builds n given before (Done c) after
-    → (check_of n given (rooms_of before) ≡ Outcome.Done) × (c ≡ counts_of n (sorted_pents given)) × (after ≡ over_all (written (sorted_pents given)) before)
+pub builder-left : (n : ℕ) (given : List ℕ) (before after : Lists) (c : Counts) → Builds n given before (Ok c) after
+    → (check_of n given (rooms_of before) ≡ Done) × (c ≡ counts_of n (sorted_pents given)) × (after ≡ over_all (written (sorted_pents given)) before)
 builder-left n given before after c b =
     let d = answered-done (check_of n given (rooms_of before)) n given c b.answered in
     (d.0, d.1, b.left ∙ ap (λ (o : Outcome). lists_after o given before) d.0)
 
 -- what the builder answers and leaves is built
-pub builder-built : (n : ℕ) (given : List ℕ) (before after : Lists) (c : Counts) → Builds n given before (Done c) after → is_built c after ≡ true
+pub builder-built : (n : ℕ) (given : List ℕ) (before after : Lists) (c : Counts) → Builds n given before (Ok c) after → is_built c after ≡ true
 unfolding qs c after
 builder-built n given before after c b =
     let d = builder-left n given before after c b in
@@ -122,13 +122,13 @@ again new l h =
     same new old e = over-begins new old (said (begins-says new old) e)
 
 -- a built complex with room is what the builder answers and leaves for its own pentachoron list
-pub built-builds : (c : Counts) (l : Lists) → is_built c l ≡ true → is_short c.pentachorons (rooms_of l) ≡ false → Builds c.vertices (given_of c l) l (Done c) l
+pub built-builds : (c : Counts) (l : Lists) → is_built c l ≡ true → is_short c.pentachorons (rooms_of l) ≡ false → Builds c.vertices (given_of c l) l (Ok c) l
 unfolding counts_of
 built-builds c l h room =
     let b = said (built-says c l) h in
     let done = built-taken c l b (rooms_of l) room in
     let sorted = rise-sorted c l b.long b.rise in
     record {
-      answered = rw done (ap Done (rw sorted (λ i. record { vertices = c.vertices; pentachorons = sym (length-rows 5 c.pentachorons l.pents) i; edges = b.has_edges.count i; triangles = b.has_triangles.count i; tets = b.has_tets.count i })));
+      answered = rw done (ap Ok (rw sorted (λ i. record { vertices = c.vertices; pentachorons = sym (length-rows 5 c.pentachorons l.pents) i; edges = b.has_edges.count i; triangles = b.has_triangles.count i; tets = b.has_tets.count i })));
       left = rw done (rw sorted (sym (again (written (pents_in c l.pents)) l (lists_begin c l b))));
     }

@@ -1,4 +1,6 @@
 -- A built complex: what the definition says of each list, and that a complex of which all this holds is built. Assumes nothing.
+use Rattle.refusals.specs.Refusals.{Done, Outcome}
+use Rattle.std.specs.Prelude.{Err, Ok}
 use Prim.Native.Nat.{ℕ, ◌+◌, ◌*◌, ◌/◌, ◌%◌, ◌≤◌, ◌<◌}
 use mathlib.Core.Path.{◌≡◌, refl, sym, ap, ◌∙◌, subst}
 use mathlib.Core.Bool.{true, false}
@@ -8,7 +10,6 @@ use lib.Dec.{eqb, ltb, leb}
 use lib.ListN.{length, take}
 use lib.Seq.{length-take-le}
 use borrow.Author.Tests.{leb-true, le-leb, eqb-true, eqb-false, eq-eqb, ne_eqb, ltb-false, le-ltb}
-use Rattle.refusals.specs.declared.Outcome.{Outcome}
 use Rattle.lists.specs.Rows.{flat, rows, Wide, begins}
 use Rattle.lists.specs.Sorting.{sort}
 use Rattle.lists.proofs.Tests.{Says, says-by, said, passes, and-true}
@@ -47,7 +48,7 @@ pub positive : {n : ℕ} → (n ≡ 0 → ⊥) → 0 < n
 positive f = omega arith
 
 -- the pentachorons of a list that the builder takes rise when they are sorted
-pub taken-rises : (n : ℕ) (given : List ℕ) → offence n 0 (pentachorons given) ≡ Outcome.Done → AllRise n (sorted_pents given)
+pub taken-rises : (n : ℕ) (given : List ℕ) → offence n 0 (pentachorons given) ≡ Done → AllRise n (sorted_pents given)
 taken-rises n given d p m =
     let w = sorted_of given p m in
     let ok = offence-done n 0 (pentachorons given) d w.0 w.1 in
@@ -70,11 +71,11 @@ unfolding same_counts
 is_same c d v p e t k = rw (eq-eqb _ _ v, eq-eqb _ _ p, eq-eqb _ _ e, eq-eqb _ _ t, eq-eqb _ _ k) refl
 
 -- an answer of these counts is no refusal
-answers-done : (o : Outcome) (n : ℕ) (given : List ℕ) (c : Counts) → answers (built_of o n given) c ≡ true → (o ≡ Outcome.Done) × (same_counts c (counts_of n (sorted_pents given)) ≡ true)
-answers-done Outcome.Done n given c h = (refl, h)
-answers-done (Outcome.Refused r) n given c h = absurd (let z : ◌≡◌ {A = ℕ} 0 1 = cc in omega arith)
+answers-done : (o : Outcome) (n : ℕ) (given : List ℕ) (c : Counts) → answers (built_of o n given) c ≡ true → (o ≡ Done) × (same_counts c (counts_of n (sorted_pents given)) ≡ true)
+answers-done (Ok u) n given c h = (refl, h)
+answers-done (Err r) n given c h = absurd (let z : ◌≡◌ {A = ℕ} 0 1 = cc in omega arith)
 
-done-answers : (o : Outcome) (n : ℕ) (given : List ℕ) (c : Counts) → o ≡ Outcome.Done → same_counts c (counts_of n (sorted_pents given)) ≡ true → answers (built_of o n given) c ≡ true
+done-answers : (o : Outcome) (n : ℕ) (given : List ℕ) (c : Counts) → o ≡ Done → same_counts c (counts_of n (sorted_pents given)) ≡ true → answers (built_of o n given) c ≡ true
 done-answers o n given c e h = rw e h
 
 -- ---- the pentachoron list
@@ -211,7 +212,7 @@ module _ (c : Counts) (l : Lists) where
         })
 
   -- the builder takes the pentachoron list, given room
-  pub built-taken : IsBuilt c l → (r : Rooms) → is_short c.pentachorons r ≡ false → check_of c.vertices (given_of c l) r ≡ Outcome.Done
+  pub built-taken : IsBuilt c l → (r : Rooms) → is_short c.pentachorons r ≡ false → check_of c.vertices (given_of c l) r ≡ Done
   built-taken b r room =
       let long = given-long c l b.long in
       let whole : length (given_of c l) % 5 ≡ 0 = omega (arith, long) in

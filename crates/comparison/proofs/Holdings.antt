@@ -1,4 +1,4 @@
--- Adjacency lists that are checked and not built: parts of rising numbers of rows in which a key lies, as many as there are in all, are the lists of all such rows. Assumes nothing.
+-- AdjacencyList lists that are checked and not built: parts of rising numbers of rows in which a key lies, as many as there are in all, are the lists of all such rows. Assumes nothing.
 use Prim.Native.Nat.{ℕ, suc, ◌+◌, ◌*◌, ◌/◌, ◌≤◌, ◌<◌}
 use mathlib.Core.Path.{◌≡◌, refl, sym, ap, ◌∙◌, subst}
 use mathlib.Core.Bool.{true, ◌&&◌}

@@ -37,7 +37,7 @@ pub fn has_faces(
     let mut k = 0;
     while k < pentachorons {
         let given = face.rows_at(pents, 5 * k);
-        let met = match_rows(
+        let Some(met) = match_rows(
             list,
             &mut head,
             next,
@@ -48,11 +48,10 @@ pub fn has_faces(
             count,
             numbers,
             count * k,
-        );
-        if !met.same {
+        ) else {
             return false;
-        }
-        n = met.rows;
+        };
+        n = met;
         k += 1;
     }
     n == n_faces

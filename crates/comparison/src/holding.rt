@@ -6,7 +6,7 @@ ghost use Rattle.complex.specs.Check.{holds};
 ghost use Rattle.comparison.specs.CheckParts.{lying, part_lies};
 ghost use Rattle.comparison.specs.Parts.{Holdable};
 
-use complex::has;
+use complex::{AdjacencyList, has};
 
 // How many numbers a row of a flat list has, and how many rows there are.
 #[derive(Clone, Copy)]
@@ -62,56 +62,47 @@ fn part_lies(
     key: &[u32],
     list: &[u32],
     shape: Shape,
-    items: &[u32],
-    starts: &[u32],
+    adjacency: &AdjacencyList<'_>,
     j: usize,
 ) -> bool
-    requires { (shape.width * shape.count ≤ length list.now) × (j + 1 < length starts.now) }
-    ensures { result ≡ part_lies (rows shape.width shape.count list.now) key.now items.now starts.now j }
+    requires { (shape.width * shape.count ≤ length list.now) × (j + 1 < length adjacency.now.starts.now) }
+    ensures { result ≡ part_lies (rows shape.width shape.count list.now) key.now adjacency.now.items.now adjacency.now.starts.now j }
 {
-    let next = j + 1;
-    let from = starts[j] as usize;
-    let to = starts[next] as usize;
-    if to < from {
+    let from = adjacency.starts[j] as usize;
+    let to = adjacency.starts[j + 1] as usize;
+    if to < from || adjacency.items.len() < to {
         return false;
     }
-    if items.len() < to {
-        return false;
-    }
-    items_lie(key, list, shape, &items[from..to])
+    items_lie(key, list, shape, &adjacency.items[from..to])
 }
 
-// Whether items and starts begin with the numbers of the rows in which each key lies. `total` is how many these are: a part that
+// Whether an adjacency list begins with the numbers of the rows in which each key lies. `total` is how many these are: a part that
 // lies is no longer than it should be, so parts that have the total all together are whole.
 pub fn is_holding(
     keys: &[u32],
     key_shape: Shape,
     list: &[u32],
     shape: Shape,
-    items: &[u32],
-    starts: &[u32],
+    adjacency: &AdjacencyList<'_>,
     total: usize,
 ) -> bool
     requires { Holdable keys.now key_shape list.now shape total }
     ensures { result ≡ holds (rows shape.width shape.count list.now) (rows key_shape.width key_shape.count keys.now)
-        items.now starts.now }
+        adjacency.now.items.now adjacency.now.starts.now }
 {
     let width = key_shape.width;
     let count = key_shape.count;
-    if starts.len() <= count {
-        return false;
-    }
-    if starts[0] != 0 {
+    if adjacency.starts.len() <= count || adjacency.starts[0] != 0 {
         return false;
     }
     let mut j = 0;
     while j < count {
         let from = width * j;
         let to = from + width;
-        if !part_lies(&keys[from..to], list, shape, items, starts, j) {
+        if !part_lies(&keys[from..to], list, shape, adjacency, j) {
             return false;
         }
         j += 1;
     }
-    starts[count] as usize == total
+    adjacency.starts[count] as usize == total
 }

@@ -6,16 +6,16 @@ mod holding;
 
 ghost use Rattle.std.specs.Prelude.{◌≡◌, ◌+◌, ◌*◌, ◌/◌, ◌≤◌, length, take, drop};
 ghost use Rattle.lists.specs.Rows.{rows};
-ghost use Rattle.complex.specs.Builder.{lists};
-ghost use Rattle.complex.specs.Check.{pents_in, is_built, Checked};
+ghost use Rattle.complex.specs.Check.{is_built, Checked};
+ghost use Rattle.complex.specs.Lent.{lists_of, pents_of};
 ghost use Rattle.comparison.specs.CheckParts.{rises, all_rise, has_pents, has_all_faces, has_adjacency};
 ghost use Rattle.comparison.specs.Parts.{Scratch, Noting, Faced};
 
-use complex::{Counts, Face};
+use complex::{Complex, Face};
 use faces::has_faces;
 use holding::{Shape, is_holding};
 use lists::copy_row;
-use refusals::{Outcome, Refusal};
+use refusals::Refusal;
 
 // Whether the vertices of the pentachoron at `at` rise, and the last is below n.
 fn rises_at(n: usize, pents: &[u32], at: usize) -> bool
@@ -46,80 +46,42 @@ fn all_rise(n: usize, pents: &[u32]) -> bool
 }
 
 // Whether there is a sorted pentachoron list that the builder takes.
-fn has_pents(counts: Counts, pents: &[u32]) -> bool
-    ensures { result ≡ has_pents counts pents.now }
+fn has_pents(complex: &Complex<'_>) -> bool
+    ensures { result ≡ has_pents complex.now.counts complex.now.pents.now }
 {
-    if counts.vertices == 0 {
-        return false;
-    }
-    if 4096 < counts.vertices {
-        return false;
-    }
-    if 8192 < counts.pentachorons {
+    let counts = complex.counts;
+    if counts.vertices == 0 || 4096 < counts.vertices || 8192 < counts.pentachorons {
         return false;
     }
     let len = 5 * counts.pentachorons;
-    if pents.len() < len {
+    if complex.pents.len() < len {
         return false;
     }
-    all_rise(counts.vertices, &pents[..len])
+    all_rise(counts.vertices, &complex.pents[..len])
 }
 
 // Whether the lists of faces are those of the pentachorons. The numbers of their edges and triangles are noted (`Noting`).
-fn has_all_faces(
-    counts: Counts,
-    pents: &[u32],
-    edges: &[u32],
-    triangles: &[u32],
-    tets: &[u32],
-    pent_edges: &mut [u32],
-    pent_tris: &mut [u32],
-) -> bool
-    requires { Scratch (length pents.now) (length pent_edges.old) (length pent_tris.old) }
-    ensures value { result ≡ has_all_faces counts (rows 5 (length pents.now / 5) pents.now) edges.now triangles.now tets.now }
-    ensures noting { Noting (rows 5 (length pents.now / 5) pents.now) result pent_edges.old pent_tris.old pent_edges.new pent_tris.new }
+fn has_all_faces(complex: &Complex<'_>, pent_edges: &mut [u32], pent_tris: &mut [u32]) -> bool
+    requires long { 5 * complex.now.counts.pentachorons ≤ length complex.now.pents.now }
+    requires scratch { Scratch (5 * complex.now.counts.pentachorons) (length pent_edges.old) (length pent_tris.old) }
+    ensures value { result ≡ has_all_faces complex.now.counts (pents_of complex.now) complex.now.edges.now complex.now.triangles.now complex.now.tets.now }
+    ensures noting { Noting (pents_of complex.now) result pent_edges.old pent_tris.old pent_edges.new pent_tris.new }
 {
     let mut next = [0u32; 81920];
-    if !has_faces(Face::Tet, pents, counts.tets, tets, &mut next, pent_tris) {
-        return false;
-    }
-    if !has_faces(
-        Face::Edge,
-        pents,
-        counts.edges,
-        edges,
-        &mut next,
-        pent_edges,
-    ) {
-        return false;
-    }
-    has_faces(
-        Face::Triangle,
-        pents,
-        counts.triangles,
-        triangles,
-        &mut next,
-        pent_tris,
-    )
+    let counts = complex.counts;
+    let pents = &complex.pents[..5 * counts.pentachorons];
+    has_faces(Face::Tet, pents, counts.tets, complex.tets, &mut next, pent_tris)
+        && has_faces(Face::Edge, pents, counts.edges, complex.edges, &mut next, pent_edges)
+        && has_faces(Face::Triangle, pents, counts.triangles, complex.triangles, &mut next, pent_tris)
 }
 
 // Whether the adjacency lists are those of the pentachorons and their faces.
-fn has_adjacency(
-    counts: Counts,
-    pents: &[u32],
-    edges: &[u32],
-    triangles: &[u32],
-    tri_to_pents_items: &[u32],
-    tri_to_pents_starts: &[u32],
-    edge_to_tris_items: &[u32],
-    edge_to_tris_starts: &[u32],
-    edge_to_pents_items: &[u32],
-    edge_to_pents_starts: &[u32],
-) -> bool
-    requires { Faced counts pents.now edges.now triangles.now }
-    ensures { result ≡ has_adjacency (pents_in counts pents.now) tri_to_pents_items.now tri_to_pents_starts.now
-        edge_to_tris_items.now edge_to_tris_starts.now edge_to_pents_items.now edge_to_pents_starts.now }
+fn has_adjacency(complex: &Complex<'_>) -> bool
+    requires { Faced complex.now.counts complex.now.pents.now complex.now.edges.now complex.now.triangles.now }
+    ensures { result ≡ has_adjacency (pents_of complex.now) complex.now.tri_to_pents.items.now complex.now.tri_to_pents.starts.now
+        complex.now.edge_to_tris.items.now complex.now.edge_to_tris.starts.now complex.now.edge_to_pents.items.now complex.now.edge_to_pents.starts.now }
 {
+    let counts = complex.counts;
     let met = 10 * counts.pentachorons;
     let by_fives = Shape {
         width: 5,
@@ -133,177 +95,55 @@ fn has_adjacency(
         width: 3,
         count: counts.triangles,
     };
-    if !is_holding(
-        triangles,
-        by_threes,
-        pents,
-        by_fives,
-        tri_to_pents_items,
-        tri_to_pents_starts,
-        met,
-    ) {
-        return false;
-    }
-    if !is_holding(
-        edges,
-        by_twos,
-        triangles,
-        by_threes,
-        edge_to_tris_items,
-        edge_to_tris_starts,
-        3 * counts.triangles,
-    ) {
-        return false;
-    }
-    is_holding(
-        edges,
-        by_twos,
-        pents,
-        by_fives,
-        edge_to_pents_items,
-        edge_to_pents_starts,
-        met,
-    )
+    is_holding(complex.triangles, by_threes, complex.pents, by_fives, &complex.tri_to_pents, met)
+        && is_holding(complex.edges, by_twos, complex.triangles, by_threes, &complex.edge_to_tris, 3 * counts.triangles)
+        && is_holding(complex.edges, by_twos, complex.pents, by_fives, &complex.edge_to_pents, met)
 }
 
 // Whether a complex is built, for a caller with scratch of its own: where it is, the numbers of the edges and triangles of each
 // pentachoron are noted; where it is not, the first ten places for each pentachoron are left free. All other places are kept.
-pub fn is_built_noting(
-    counts: Counts,
-    pents: &[u32],
-    edges: &[u32],
-    triangles: &[u32],
-    tets: &[u32],
-    tri_to_pents_items: &[u32],
-    tri_to_pents_starts: &[u32],
-    edge_to_tris_items: &[u32],
-    edge_to_tris_starts: &[u32],
-    edge_to_pents_items: &[u32],
-    edge_to_pents_starts: &[u32],
-    pent_edges: &mut [u32],
-    pent_tris: &mut [u32],
-) -> bool
+pub fn is_built_noting(complex: &Complex<'_>, pent_edges: &mut [u32], pent_tris: &mut [u32]) -> bool
     requires { (81920 ≤ length pent_edges.old) × (81920 ≤ length pent_tris.old) }
-    ensures value { result ≡ is_built counts (lists pents.now edges.now triangles.now tets.now
-        tri_to_pents_items.now tri_to_pents_starts.now edge_to_tris_items.now edge_to_tris_starts.now
-        edge_to_pents_items.now edge_to_pents_starts.now) }
-    ensures noting { Noting (pents_in counts pents.now) result pent_edges.old pent_tris.old pent_edges.new pent_tris.new }
+    ensures value { result ≡ is_built complex.now.counts (lists_of complex.now) }
+    ensures noting { Noting (pents_of complex.now) result pent_edges.old pent_tris.old pent_edges.new pent_tris.new }
 {
-    if !has_pents(counts, pents) {
+    if !has_pents(complex) {
         return false;
     }
-    let len = 5 * counts.pentachorons;
-    if !has_all_faces(
-        counts,
-        &pents[..len],
-        edges,
-        triangles,
-        tets,
-        pent_edges,
-        pent_tris,
-    ) {
+    if !has_all_faces(complex, pent_edges, pent_tris) {
         return false;
     }
-    has_adjacency(
-        counts,
-        pents,
-        edges,
-        triangles,
-        tri_to_pents_items,
-        tri_to_pents_starts,
-        edge_to_tris_items,
-        edge_to_tris_starts,
-        edge_to_pents_items,
-        edge_to_pents_starts,
-    )
+    has_adjacency(complex)
 }
 
 // Whether a complex is built: its counts and lists are what the builder answers and writes.
-pub fn is_built(
-    counts: Counts,
-    pents: &[u32],
-    edges: &[u32],
-    triangles: &[u32],
-    tets: &[u32],
-    tri_to_pents_items: &[u32],
-    tri_to_pents_starts: &[u32],
-    edge_to_tris_items: &[u32],
-    edge_to_tris_starts: &[u32],
-    edge_to_pents_items: &[u32],
-    edge_to_pents_starts: &[u32],
-) -> bool
-    ensures { result ≡ is_built counts (lists pents.now edges.now triangles.now tets.now
-        tri_to_pents_items.now tri_to_pents_starts.now edge_to_tris_items.now edge_to_tris_starts.now
-        edge_to_pents_items.now edge_to_pents_starts.now) }
+pub fn is_built(complex: &Complex<'_>) -> bool
+    ensures { result ≡ is_built complex.now.counts (lists_of complex.now) }
 {
     let mut edge_numbers = [0u32; 81920];
     let mut tri_numbers = [0u32; 81920];
-    is_built_noting(
-        counts,
-        pents,
-        edges,
-        triangles,
-        tets,
-        tri_to_pents_items,
-        tri_to_pents_starts,
-        edge_to_tris_items,
-        edge_to_tris_starts,
-        edge_to_pents_items,
-        edge_to_pents_starts,
-        &mut edge_numbers,
-        &mut tri_numbers,
-    )
+    is_built_noting(complex, &mut edge_numbers, &mut tri_numbers)
 }
 
-// The check behind refusal 7, and the ten edge numbers and ten triangle numbers of each pentachoron. A refused call leaves both
+// The check of a complex, and the ten edge numbers and ten triangle numbers of each pentachoron. A refused call leaves both
 // lists as they were; otherwise the places that are not written are kept.
 pub fn check_built(
-    counts: Counts,
-    pents: &[u32],
-    edges: &[u32],
-    triangles: &[u32],
-    tets: &[u32],
-    tri_to_pents_items: &[u32],
-    tri_to_pents_starts: &[u32],
-    edge_to_tris_items: &[u32],
-    edge_to_tris_starts: &[u32],
-    edge_to_pents_items: &[u32],
-    edge_to_pents_starts: &[u32],
+    complex: &Complex<'_>,
     pent_edges: &mut [u32],
     pent_tris: &mut [u32],
-) -> Outcome
-    ensures { Checked counts (lists pents.now edges.now triangles.now tets.now
-        tri_to_pents_items.now tri_to_pents_starts.now edge_to_tris_items.now edge_to_tris_starts.now
-        edge_to_pents_items.now edge_to_pents_starts.now)
-        pent_edges.old pent_tris.old result pent_edges.new pent_tris.new }
+) -> Result<(), Refusal>
+    ensures { Checked complex.now.counts (lists_of complex.now) pent_edges.old pent_tris.old result pent_edges.new pent_tris.new }
 {
     let mut edge_numbers = [0u32; 81920];
     let mut tri_numbers = [0u32; 81920];
-    if !is_built_noting(
-        counts,
-        pents,
-        edges,
-        triangles,
-        tets,
-        tri_to_pents_items,
-        tri_to_pents_starts,
-        edge_to_tris_items,
-        edge_to_tris_starts,
-        edge_to_pents_items,
-        edge_to_pents_starts,
-        &mut edge_numbers,
-        &mut tri_numbers,
-    ) {
-        return Outcome::Refused(Refusal::NotBuilt);
+    if !is_built_noting(complex, &mut edge_numbers, &mut tri_numbers) {
+        return Err(Refusal::NotBuilt);
     }
-    let met = 10 * counts.pentachorons;
-    if pent_edges.len() < met {
-        return Outcome::Refused(Refusal::ShortRoom);
-    }
-    if pent_tris.len() < met {
-        return Outcome::Refused(Refusal::ShortRoom);
+    let met = 10 * complex.counts.pentachorons;
+    if pent_edges.len() < met || pent_tris.len() < met {
+        return Err(Refusal::ShortRoom);
     }
     copy_row(pent_edges, 0, &edge_numbers[..met]);
     copy_row(pent_tris, 0, &tri_numbers[..met]);
-    Outcome::Done
+    Ok(())
 }

@@ -1,5 +1,6 @@
 -- Laws of what the builder writes: pentachorons are kept and sorted, adjacency lists ascend, and a sorted list is built into the same lists. Assumes nothing.
 -- That no face stands twice and each is found at one index is `faces-distinct` and `faces-found`; that a face's list holds exactly the rows in which it lies is `mem-holding` and `holding-mem` (Lying).
+use Rattle.refusals.specs.Refusals.{Done}
 use Prim.Native.Nat.{ℕ, ◌+◌, ◌/◌, ◌%◌, ◌<◌}
 use mathlib.Core.Path.{◌≡◌, refl, ap, ◌∙◌, subst}
 use mathlib.Core.Bool.{false}
@@ -10,7 +11,6 @@ use native.Mathlib.Omega.{arith}
 use lib.Dec.{leb}
 use lib.ListN.{length, get_or}
 use borrow.Author.Tests.{leb-false, lt-leb}
-use Rattle.refusals.specs.declared.Outcome.TheVariants.{Done}
 use Rattle.lists.specs.Lists.{upto, within, Rising, Once}
 use Rattle.lists.specs.Rows.{flat}
 use Rattle.lists.specs.Sorting.{sort, Ascending, times}

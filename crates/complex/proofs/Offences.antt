@@ -1,4 +1,6 @@
 -- The checks of the builder: their turns, and what a list that passed them is like. Assumes nothing.
+use Rattle.refusals.specs.Refusals.{Done, Outcome}
+use Rattle.std.specs.Prelude.{Err}
 use Prim.Native.Nat.{ℕ, suc, ◌+◌, ◌*◌, ◌-◌, ◌/◌, ◌%◌, ◌<◌, ◌≤◌}
 use mathlib.Core.Path.{◌≡◌, refl, ap, ◌∙◌}
 use mathlib.Core.Bool.{Bool, true, false, not, cond, ◌||◌}
@@ -12,8 +14,6 @@ use lib.Seq.{drop-drop}
 use borrow.Author.Tests.{eqb-true, ltb-false, not-false}
 use Rattle.refusals.specs.declared.Refusal.{Refusal}
 use Rattle.refusals.specs.declared.Refusal.TheVariants.{VertexCount, ListLength, ShortRoom, VertexTooLarge, RepeatedVertex}
-use Rattle.refusals.specs.declared.Outcome.{Outcome}
-use Rattle.refusals.specs.declared.Outcome.TheVariants.{Done, Refused}
 use Rattle.lists.specs.Lists.{among, Once}
 use Rattle.lists.specs.Rows.{rows}
 use Rattle.lists.proofs.Tests.{denied}
@@ -25,8 +25,8 @@ use Rattle.complex.specs.Parts.{Buildable}
 -- the turn at the pentachoron k of c
 pub offence-turn : (n k c : ℕ) (ps : List ℕ) → k < c
     → offence n k (rows 5 (c - k) (drop (5 * k) ps))
-    ≡ cond (too_large n (take 5 (drop (5 * k) ps))) (Refused (VertexTooLarge k))
-    (cond (repeats (take 5 (drop (5 * k) ps))) (Refused (RepeatedVertex k)) (offence n (k + 1) (rows 5 (c - (k + 1)) (drop (5 * (k + 1)) ps))))
+    ≡ cond (too_large n (take 5 (drop (5 * k) ps))) (Err (VertexTooLarge k))
+    (cond (repeats (take 5 (drop (5 * k) ps))) (Err (RepeatedVertex k)) (offence n (k + 1) (rows 5 (c - (k + 1)) (drop (5 * (k + 1)) ps))))
 unfolding offence rows
 offence-turn n k c ps h =
     let a : c - k ≡ suc (c - (k + 1)) = omega arith in
@@ -37,7 +37,7 @@ offence-turn n k c ps h =
 -- ---- what passed
 
 -- a test that refuses was not met where the call is done
-pub cond-done : (b : Bool) (r : Refusal) (x : Outcome) → cond b (Refused r) x ≡ Done → (b ≡ false) × (x ≡ Done)
+pub cond-done : (b : Bool) (r : Refusal) (x : Outcome) → cond b (Err r) x ≡ Done → (b ≡ false) × (x ≡ Done)
 cond-done true r x h = absurd (let z : ◌≡◌ {A = ℕ} 0 1 = cc in omega arith)
 cond-done false r x h = (refl, h)
 

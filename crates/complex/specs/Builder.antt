@@ -1,14 +1,12 @@
 -- The builder `from_pentachorons`: when it refuses, what it answers, and what it leaves in the lent lists. Definitions only.
-use Rattle.std.specs.Prelude.{ℕ, ◌+◌, ◌*◌, ◌/◌, ◌%◌, ◌≡◌, Bool, false, not, cond, ◌||◌, List, [], ◌∷◌, map, eqb, ltb, leb, length}
+use Rattle.std.specs.Prelude.{ℕ, ◌+◌, ◌*◌, ◌/◌, ◌%◌, ◌≡◌, Bool, false, not, cond, ◌||◌, List, [], ◌∷◌, map, eqb, ltb, leb, length, Result, Ok, Err}
 use Rattle.refusals.specs.declared.Refusal.TheVariants.{VertexCount, ListLength, ShortRoom, VertexTooLarge, RepeatedVertex}
-use Rattle.refusals.specs.declared.Outcome.{Outcome}
-use Rattle.refusals.specs.Refusals.{number_of, place_of}
+use Rattle.refusals.specs.declared.Refusal.{Refusal}
+use Rattle.refusals.specs.Refusals.{Outcome, Done, answer_by}
 use Rattle.lists.specs.Lists.{among}
 use Rattle.lists.specs.Rows.{flat, rows, starts, over}
 use Rattle.lists.specs.Sorting.{sort}
 use Rattle.complex.specs.declared.Counts.{Counts}
-use Rattle.complex.specs.declared.Built.{Built}
-use Rattle.complex.specs.declared.Built.TheVariants.{Done, Refused}
 use Rattle.complex.specs.declared.checks.Rooms.{Rooms}
 use Rattle.complex.specs.Complex.{edges, triangles, tets, tri_to_pents, edge_to_tris, edge_to_pents}
 
@@ -36,8 +34,8 @@ repeats (v ∷ p) = among v p || repeats p
 
 -- the refusal of the earliest offending pentachoron, the first of which has the number k
 unfoldable pub offence : ℕ → ℕ → List (List ℕ) → Outcome
-offence n k [] = Outcome.Done
-offence n k (p ∷ ps) = cond (too_large n p) (Outcome.Refused (VertexTooLarge k)) (cond (repeats p) (Outcome.Refused (RepeatedVertex k)) (offence n (k + 1) ps))
+offence n k [] = Done
+offence n k (p ∷ ps) = cond (too_large n p) (Err (VertexTooLarge k)) (cond (repeats p) (Err (RepeatedVertex k)) (offence n (k + 1) ps))
 
 -- some lent list is shorter than its room for P pentachorons
 unfoldable pub is_short : ℕ → Rooms → Bool
@@ -50,9 +48,9 @@ is_short P r =
 -- the checks, in the table's order: vertex count n, pentachoron list, lengths of the lent lists
 unfoldable pub check_of : ℕ → List ℕ → Rooms → Outcome
 check_of n given r =
-    cond (eqb n 0 || ltb 4096 n) (Outcome.Refused VertexCount)
-    (cond (not (eqb (length given % 5) 0) || ltb 40960 (length given)) (Outcome.Refused ListLength)
-    (cond (is_short (length given / 5) r) (Outcome.Refused ShortRoom) (offence n 0 (pentachorons given))))
+    cond (eqb n 0 || ltb 4096 n) (Err VertexCount)
+    (cond (not (eqb (length given % 5) 0) || ltb 40960 (length given)) (Err ListLength)
+    (cond (is_short (length given / 5) r) (Err ShortRoom) (offence n 0 (pentachorons given))))
 
 -- ---- the answer
 
@@ -60,25 +58,13 @@ check_of n given r =
 unfoldable pub counts_of : ℕ → List (List ℕ) → Counts
 counts_of n ps = record { vertices = n; pentachorons = length ps; edges = length (edges ps); triangles = length (triangles ps); tets = length (tets ps) }
 
+-- the builder's answer: counts, or a refusal
+abbrev pub Built : Type 0
+Built = Result Counts Refusal
+
 -- the answer, by that of the checks
 abbrev pub built_of : Outcome → ℕ → List ℕ → Built
-built_of Outcome.Done n given = Done (counts_of n (sorted_pents given))
-built_of (Outcome.Refused r) n given = Refused r
-
--- the refusal's number, 0 where the builder answered
-abbrev pub built_number : Built → ℕ
-built_number (Done c) = 0
-built_number (Refused r) = number_of r
-
--- the refusal's place, 0 where the builder answered
-abbrev pub built_place : Built → ℕ
-built_place (Done c) = 0
-built_place (Refused r) = place_of r
-
--- the counts, and others where the builder refused
-abbrev pub counts_or : Built → Counts → Counts
-counts_or (Done c) other = c
-counts_or (Refused r) other = other
+built_of o n given = answer_by o (counts_of n (sorted_pents given))
 
 -- ---- the lent lists
 
@@ -145,8 +131,8 @@ over_all new old =
 
 -- the lists after the call, by the answer of the checks: unchanged where it refuses
 abbrev pub lists_after : Outcome → List ℕ → Lists → Lists
-lists_after Outcome.Done given old = over_all (written (sorted_pents given)) old
-lists_after (Outcome.Refused r) given old = old
+lists_after (Ok u) given old = over_all (written (sorted_pents given)) old
+lists_after (Err r) given old = old
 
 -- the lengths of the lists
 unfoldable pub rooms_of : Lists → Rooms

@@ -1,15 +1,13 @@
 -- The check behind refusal 7: when counts and lists are those of a built complex, and what the check answers and leaves. Definitions only.
-use Rattle.std.specs.Prelude.{ℕ, ◌+◌, ◌*◌, ◌≡◌, Bool, false, not, cond, ◌&&◌, ◌||◌, List, map, eqb, ltb, leb, length, take}
+use Rattle.refusals.specs.Refusals.{Done, Outcome}
+use Rattle.std.specs.Prelude.{ℕ, ◌+◌, ◌*◌, ◌≡◌, Bool, false, not, cond, ◌&&◌, ◌||◌, List, map, eqb, ltb, leb, length, take, Err, Ok}
 use Rattle.refusals.specs.declared.Refusal.TheVariants.{NotBuilt, ShortRoom}
-use Rattle.refusals.specs.declared.Outcome.{Outcome}
 use Rattle.lists.specs.Rows.{flat, rows, starts, over, begins}
 use Rattle.complex.specs.declared.Counts.{Counts}
-use Rattle.complex.specs.declared.Built.{Built}
-use Rattle.complex.specs.declared.Built.TheVariants.{Done, Refused}
 use Rattle.complex.specs.declared.numbering.Face.TheVariants.{Edge, Triangle}
 use Rattle.complex.specs.declared.checks.Rooms.{Rooms}
 use Rattle.complex.specs.Complex.{holding, numbers_of}
-use Rattle.complex.specs.Builder.{sorted_pents, check_of, built_of, Lists, written}
+use Rattle.complex.specs.Builder.{sorted_pents, check_of, Built, built_of, Lists, written}
 
 -- ---- the rows of the lent lists
 
@@ -64,8 +62,8 @@ same_counts c d =
 
 -- an answer of the builder is these counts
 abbrev pub answers : Built → Counts → Bool
-answers (Done d) c = same_counts c d
-answers (Refused r) c = false
+answers (Ok d) c = same_counts c d
+answers (Err r) c = false
 
 -- each list begins with what is written; what follows is not looked at
 unfoldable pub begin_all : Lists → Lists → Bool
@@ -75,7 +73,7 @@ begin_all new l =
     && begins new.edge_to_tris l.edge_to_tris && begins new.edge_to_tris_starts l.edge_to_tris_starts
     && begins new.edge_to_pents l.edge_to_pents && begins new.edge_to_pents_starts l.edge_to_pents_starts
 
--- 'Built' of 01: counts and lists are what the builder answers and writes for the vertex count and the pentachoron list
+-- a complex is built: counts and lists are what the builder answers and writes for the vertex count and the pentachoron list
 unfoldable pub is_built : Counts → Lists → Bool
 is_built c l = leb (5 * c.pentachorons) (length l.pents) && answers (answer_for c l) c && begin_all (written (sorted_pents (given_of c l))) l
 
@@ -84,13 +82,13 @@ is_built c l = leb (5 * c.pentachorons) (length l.pents) && answers (answer_for 
 -- 7 where the complex is not built, then 5 where there is not room for ten numbers a pentachoron
 unfoldable pub checked_of : Counts → Lists → ℕ → ℕ → Outcome
 checked_of c l edges tris =
-    cond (not (is_built c l)) (Outcome.Refused NotBuilt)
-    (cond (ltb edges (10 * c.pentachorons) || ltb tris (10 * c.pentachorons)) (Outcome.Refused ShortRoom) Outcome.Done)
+    cond (not (is_built c l)) (Err NotBuilt)
+    (cond (ltb edges (10 * c.pentachorons) || ltb tris (10 * c.pentachorons)) (Err ShortRoom) Done)
 
 -- a lent list after a call, by its outcome: unchanged where the call is refused
 abbrev pub written_after : {A : Type 0} → Outcome → List A → List A → List A
-written_after Outcome.Done new old = over new old
-written_after (Outcome.Refused r) new old = old
+written_after (Ok u) new old = over new old
+written_after (Err r) new old = old
 
 -- the check of a complex: the answer r, and the edge numbers and triangle numbers of its pentachorons
 pub record Checked (c : Counts) (l : Lists) (pe pt : List ℕ) (r : Outcome) (pe' pt' : List ℕ) : Type 0 where

@@ -2,5 +2,6 @@
 pub mod Complex
 pub mod Builder
 pub mod Check
+pub mod Lent
 pub mod Parts
 pub mod Pushed

@@ -1,9 +1,9 @@
 // The adjacency lists, from the numbers of the edges and triangles of each pentachoron.
 ghost use Rattle.std.specs.Prelude.{◌≡◌, ◌*◌, ◌%◌, ◌<◌, length, take};
-ghost use Rattle.lists.specs.Rows.{flat, starts, over};
-ghost use Rattle.lists.specs.Groups.{groups};
 ghost use Rattle.complex.specs.Parts.{edge_at, Consistent, EdgesOf, Adjacent};
+ghost use Rattle.complex.specs.Lent.{SameAdjacencyList, IsGrouped};
 
+use crate::AdjacencyListMut;
 use lists::group;
 
 // Where each triangle's three edges stand among the ten edges of its pentachoron.
@@ -44,56 +44,52 @@ fn edges_of_triangles(pent_edges: &[u32], pent_tris: &[u32], tri_edges: &mut [u3
     }
 }
 
-// The three adjacency lists, as items and starts. `tri_edges` gets the numbers of the edges of each triangle.
+// The three adjacency lists. `tri_edges` gets the numbers of the edges of each triangle.
 pub fn adjacency(
     pent_edges: &[u32],
     pent_tris: &[u32],
     n_edges: usize,
     n_tris: usize,
     tri_edges: &mut [u32],
-    tri_to_pents_items: &mut [u32],
-    tri_to_pents_starts: &mut [u32],
-    edge_to_tris_items: &mut [u32],
-    edge_to_tris_starts: &mut [u32],
-    edge_to_pents_items: &mut [u32],
-    edge_to_pents_starts: &mut [u32],
+    tri_to_pents: &mut AdjacencyListMut<'_>,
+    edge_to_tris: &mut AdjacencyListMut<'_>,
+    edge_to_pents: &mut AdjacencyListMut<'_>,
 )
     requires { Adjacent pent_edges.now pent_tris.now n_edges n_tris (length tri_edges.old) (record {
-      tri_to_pents = length tri_to_pents_items.old;
-      tri_to_pents_starts = length tri_to_pents_starts.old;
-      edge_to_tris = length edge_to_tris_items.old;
-      edge_to_tris_starts = length edge_to_tris_starts.old;
-      edge_to_pents = length edge_to_pents_items.old;
-      edge_to_pents_starts = length edge_to_pents_starts.old;
+      tri_to_pents = length tri_to_pents.old.items.now;
+      tri_to_pents_starts = length tri_to_pents.old.starts.now;
+      edge_to_tris = length edge_to_tris.old.items.now;
+      edge_to_tris_starts = length edge_to_tris.old.starts.now;
+      edge_to_pents = length edge_to_pents.old.items.now;
+      edge_to_pents_starts = length edge_to_pents.old.starts.now;
     }) }
-    ensures { EdgesOf pent_edges.now pent_tris.now tri_edges.new (length pent_tris.now)
-        × (tri_to_pents_items.new ≡ over (flat (groups 10 n_tris pent_tris.now)) tri_to_pents_items.old)
-        × (tri_to_pents_starts.new ≡ over (starts (groups 10 n_tris pent_tris.now)) tri_to_pents_starts.old)
-        × (edge_to_tris_items.new ≡ over (flat (groups 3 n_edges (take (3 * n_tris) tri_edges.new))) edge_to_tris_items.old)
-        × (edge_to_tris_starts.new ≡ over (starts (groups 3 n_edges (take (3 * n_tris) tri_edges.new))) edge_to_tris_starts.old)
-        × (edge_to_pents_items.new ≡ over (flat (groups 10 n_edges pent_edges.now)) edge_to_pents_items.old)
-        × (edge_to_pents_starts.new ≡ over (starts (groups 10 n_edges pent_edges.now)) edge_to_pents_starts.old) }
+    ensures same { SameAdjacencyList tri_to_pents.old tri_to_pents.new × SameAdjacencyList edge_to_tris.old edge_to_tris.new
+        × SameAdjacencyList edge_to_pents.old edge_to_pents.new }
+    ensures edges { EdgesOf pent_edges.now pent_tris.now tri_edges.new (length pent_tris.now) }
+    ensures lists_after { IsGrouped 10 n_tris pent_tris.now tri_to_pents.old tri_to_pents.new
+        × IsGrouped 3 n_edges (take (3 * n_tris) tri_edges.new) edge_to_tris.old edge_to_tris.new
+        × IsGrouped 10 n_edges pent_edges.now edge_to_pents.old edge_to_pents.new }
 {
     edges_of_triangles(pent_edges, pent_tris, tri_edges);
     group(
         pent_tris,
         10,
         n_tris,
-        tri_to_pents_items,
-        tri_to_pents_starts,
+        tri_to_pents.items,
+        tri_to_pents.starts,
     );
     group(
         &tri_edges[..3 * n_tris],
         3,
         n_edges,
-        edge_to_tris_items,
-        edge_to_tris_starts,
+        edge_to_tris.items,
+        edge_to_tris.starts,
     );
     group(
         pent_edges,
         10,
         n_edges,
-        edge_to_pents_items,
-        edge_to_pents_starts,
+        edge_to_pents.items,
+        edge_to_pents.starts,
     );
 }

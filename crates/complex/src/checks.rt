@@ -3,7 +3,7 @@ ghost use Rattle.std.specs.Prelude.{◌≡◌, ◌+◌, ◌*◌, ◌/◌, ◌≤
 ghost use Rattle.lists.specs.Lists.{among};
 ghost use Rattle.complex.specs.Builder.{too_large, repeats, offence, is_short, check_of, pentachorons};
 
-use refusals::{Outcome, Refusal};
+use refusals::Refusal;
 
 // The lengths of the lent lists.
 #[derive(Clone, Copy)]
@@ -65,7 +65,7 @@ fn repeats(pent: &[u32]) -> bool
 }
 
 // The refusal of the earliest offending pentachoron.
-fn offence(n: usize, given: &[u32]) -> Outcome
+fn offence(n: usize, given: &[u32]) -> Result<(), Refusal>
     ensures { result ≡ offence n 0 (pentachorons given.now) }
 {
     let count = given.len() / 5;
@@ -74,14 +74,14 @@ fn offence(n: usize, given: &[u32]) -> Outcome
         let from = 5 * k;
         let to = from + 5;
         if too_large(n, &given[from..to]) {
-            return Outcome::Refused(Refusal::VertexTooLarge(k));
+            return Err(Refusal::VertexTooLarge(k));
         }
         if repeats(&given[from..to]) {
-            return Outcome::Refused(Refusal::RepeatedVertex(k));
+            return Err(Refusal::RepeatedVertex(k));
         }
         k += 1;
     }
-    Outcome::Done
+    Ok(())
 }
 
 // Whether some lent list is shorter than its room for p pentachorons.
@@ -103,24 +103,24 @@ fn is_short(p: usize, rooms: Rooms) -> bool
 }
 
 // The builder's checks, in the table's order.
-pub fn check(n_vertices: usize, given: &[u32], rooms: Rooms) -> Outcome
+pub fn check(n_vertices: usize, given: &[u32], rooms: Rooms) -> Result<(), Refusal>
     ensures { result ≡ check_of n_vertices given.now rooms }
 {
     let len = given.len();
     if n_vertices == 0 {
-        return Outcome::Refused(Refusal::VertexCount);
+        return Err(Refusal::VertexCount);
     }
     if 4096 < n_vertices {
-        return Outcome::Refused(Refusal::VertexCount);
+        return Err(Refusal::VertexCount);
     }
     if len % 5 != 0 {
-        return Outcome::Refused(Refusal::ListLength);
+        return Err(Refusal::ListLength);
     }
     if 40960 < len {
-        return Outcome::Refused(Refusal::ListLength);
+        return Err(Refusal::ListLength);
     }
     if is_short(len / 5, rooms) {
-        return Outcome::Refused(Refusal::ShortRoom);
+        return Err(Refusal::ShortRoom);
     }
     offence(n_vertices, given)
 }

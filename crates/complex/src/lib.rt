@@ -6,17 +6,13 @@ mod checks;
 mod numbering;
 mod sorting;
 
-ghost use Rattle.std.specs.Prelude.{◌≡◌};
-ghost use Rattle.complex.specs.Builder.{built_number, built_place, counts_or};
-
 pub use adjacency_lists::{adjacency, edge_at};
 pub use checks::{Rooms, check, has, too_large};
 pub use numbering::{Face, number_all};
-use refusals::Refusal;
 pub use sorting::{sort_all, sorted};
 
 // How many of each kind a complex has.
-#[derive(Clone, Copy)]
+#[derive(Clone, Copy, Debug, PartialEq, Eq)]
 pub struct Counts {
     pub vertices: usize,
     pub pentachorons: usize,
@@ -25,41 +21,50 @@ pub struct Counts {
     pub tets: usize,
 }
 
-// The builder's answer.
+// ---- lent lists
+
+// For each key the numbers of the rows in which it lies, ascending, one key after the other, and where those of each key start.
 #[derive(Clone, Copy)]
-pub enum Built {
-    Done(Counts),
-    Refused(Refusal),
+pub struct AdjacencyList<'a> {
+    pub items: &'a [u32],
+    pub starts: &'a [u32],
 }
 
-impl Built {
-    // The refusal's number, 0 where the builder answered.
-    pub fn number(self) -> u32
-        ensures { result ≡ built_number self }
-    {
-        match self {
-            Built::Done(_) => 0,
-            Built::Refused(refusal) => refusal.number(),
-        }
-    }
+// A complex as it is lent: its counts, its faces by their vertices, and its adjacency lists. A list may go on past what is counted.
+#[derive(Clone, Copy)]
+pub struct Complex<'a> {
+    pub counts: Counts,
+    pub pents: &'a [u32],
+    pub edges: &'a [u32],
+    pub triangles: &'a [u32],
+    pub tets: &'a [u32],
+    pub tri_to_pents: AdjacencyList<'a>,
+    pub edge_to_tris: AdjacencyList<'a>,
+    pub edge_to_pents: AdjacencyList<'a>,
+}
 
-    // The refusal's place, 0 where the builder answered.
-    pub fn place(self) -> usize
-        ensures { result ≡ built_place self }
-    {
-        match self {
-            Built::Done(_) => 0,
-            Built::Refused(refusal) => refusal.place(),
-        }
-    }
+// The numbers of the ten edges and of the ten triangles of each pentachoron.
+#[derive(Clone, Copy)]
+pub struct Incidence<'a> {
+    pub pent_edges: &'a [u32],
+    pub pent_tris: &'a [u32],
+}
 
-    // The counts, or others where the builder refused.
-    pub fn counts_or(self, other: Counts) -> Counts
-        ensures { result ≡ counts_or self other }
-    {
-        match self {
-            Built::Done(counts) => counts,
-            Built::Refused(_) => other,
-        }
-    }
+// An adjacency list that is lent to be written.
+#[derive(Drop)]
+pub struct AdjacencyListMut<'a> {
+    pub items: &'a mut [u32],
+    pub starts: &'a mut [u32],
+}
+
+// The ten lists of a complex, lent to be written.
+#[derive(Drop)]
+pub struct ListsMut<'a> {
+    pub pents: &'a mut [u32],
+    pub edges: &'a mut [u32],
+    pub triangles: &'a mut [u32],
+    pub tets: &'a mut [u32],
+    pub tri_to_pents: AdjacencyListMut<'a>,
+    pub edge_to_tris: AdjacencyListMut<'a>,
+    pub edge_to_pents: AdjacencyListMut<'a>,
 }

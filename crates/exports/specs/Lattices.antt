@@ -1,12 +1,10 @@
 -- The calls on lattices as they are exported: numbers, count and sizes in plain numbers. Definitions only.
-use Rattle.std.specs.Prelude.{ℕ, ◌≡◌, List}
-use Rattle.refusals.specs.declared.Outcome.{Outcome}
-use Rattle.refusals.specs.Refusals.{outcome_number}
+use Rattle.refusals.specs.declared.Refusal.{Refusal}
+use Rattle.refusals.specs.Refusals.{Outcome, number_in, value_or}
+use Rattle.std.specs.Prelude.{ℕ, ◌≡◌, List, Result}
 use Rattle.complex.specs.Builder.{Lists}
 use Rattle.foliation.specs.declared.Lattice.{Lattice}
-use Rattle.foliation.specs.declared.Listed as Foliation
 use Rattle.foliation.specs.Listing as Listing
-use Rattle.foliation.specs.Listing.{listed_number, count_or}
 use Rattle.lattice_edges.specs.OnLattice as OnLattice
 use Rattle.boundary.specs.Counts.{counts_of_list}
 
@@ -16,13 +14,13 @@ lattice_of t s = record { n_t = t; n_s = s }
 
 -- the list of a lattice's pentachorons: the answer in plain numbers, and the list and the count after it
 pub record Listed (l : Lattice) (old : List ℕ) (count r : ℕ) (new : List ℕ) (count' : ℕ) : Type 0 where
-  pub answer : Foliation.Listed
+  pub answer : Result ℕ Refusal
   pub lists : Listing.ListsPents l old answer new
-  pub numbered : r ≡ listed_number answer
-  pub counted : count' ≡ count_or answer count
+  pub numbered : r ≡ number_in answer
+  pub counted : count' ≡ value_or answer count
 
 -- a call over a lattice's complex: its answer as a number, and the lent list after it
 pub record Filled {A : Type 0} (l : Lattice) (counts : List ℕ) (ls : Lists) (values old : List A) (r : ℕ) (new : List A) : Type 0 where
   pub answer : Outcome
   pub filled : OnLattice.Filled l (counts_of_list counts) ls values old answer new
-  pub numbered : r ≡ outcome_number answer
+  pub numbered : r ≡ number_in answer

@@ -6,7 +6,7 @@ mod regge;
 mod retouching;
 
 ghost use Rattle.std.specs.Prelude.{◌≡◌, map};
-ghost use Rattle.refusals.specs.Refusals.{outcome_number};
+ghost use Rattle.refusals.specs.Refusals.{number_in, value_or};
 ghost use Rattle.floats.specs.Algebra.{doubles};
 ghost use Rattle.floats.specs.Methods.{abs_of, signum_of, clamp_unit_of};
 ghost use Rattle.root.specs.Root.{root_of};
@@ -19,7 +19,7 @@ ghost use Rattle.complex.specs.Builder.{lists};
 ghost use Rattle.complex.specs.Check.{edges_in};
 ghost use Rattle.lattice_edges.specs.Edges.{types_of, lengths_of};
 ghost use Rattle.geometry.specs.CayleyMenger.{cm, cofactors};
-ghost use Rattle.geometry.specs.Answer as Cofactor;
+ghost use Rattle.geometry.specs.Answer.{cofactor_answer};
 ghost use Rattle.lorentzian.specs.Triangle.{area_sq, area_sq_grad, grad_outcome, grad_after};
 ghost use Rattle.lorentzian.specs.Dihedral.{kind_number_of, value_of, compute_dihedral, dihedral_answer, refusal_of, value_or, kind_or};
 ghost use Rattle.jacobian.specs.Jacobian.{all_dihedrals, jacobian};
@@ -27,14 +27,16 @@ ghost use Rattle.boundary.specs.Counts.{counts_of_list};
 ghost use Rattle.exports.specs.Complexes.{Built, Checked};
 ghost use Rattle.exports.specs.Lattices.{lattice_of, Listed, Filled};
 
-use boundary::{counts_list, counts_of};
+use boundary::{complex_of, counts_list, counts_of};
 use builder::from_pentachorons;
 use comparison::check_built;
+use complex::{AdjacencyListMut, ListsMut};
 use foliation::{Lattice, foliated_hypercubic};
 use geometry::cofactor_6x6;
 use jacobian::all_lorentzian_dihedrals;
 use lattice_edges::{edge_types, flat_minkowski_sq_lengths};
 use lorentzian::lorentzian_dihedral;
+use refusals::{number_in, place_in};
 
 // ---- floats, the root and fdlibm
 
@@ -112,12 +114,12 @@ pub extern "C" fn cjapthumi_cofactor_6x6(
     col: usize,
     value: &mut f64,
 ) -> u32
-    ensures { (result ≡ Cofactor.refusal_of (Cofactor.cofactor_answer m.now row col))
-        × (value.new ≡ Cofactor.value_or (Cofactor.cofactor_answer m.now row col) value.old) }
+    ensures { (result ≡ number_in (cofactor_answer m.now row col))
+        × (value.new ≡ value_or (cofactor_answer m.now row col) value.old) }
 {
     let cofactor = cofactor_6x6(m, row, col);
-    *value = cofactor.value_or(*value);
-    cofactor.number()
+    *value = cofactor.unwrap_or(*value);
+    number_in(&cofactor)
 }
 
 #[unsafe(no_mangle)]
@@ -156,7 +158,7 @@ pub extern "C" fn cjapthumi_tri_area_sq_grad_in_pent(
     tri: &[usize; 3],
     grad: &mut [f64; 10],
 ) -> u32
-    ensures value { result ≡ outcome_number (grad_outcome tri.now) }
+    ensures value { result ≡ number_in (grad_outcome tri.now) }
     ensures grad_after { grad.new ≡ grad_after s.now tri.now grad.old }
 {
     lorentzian::tri_area_sq_grad_in_pent(s, *tri, grad).number()
@@ -247,23 +249,28 @@ pub extern "C" fn cjapthumi_from_pentachorons(
         edge_to_pents_items.new edge_to_pents_starts.new)
         counts.new place.new }
 {
-    let built = from_pentachorons(
-        n_vertices,
-        given,
+    let mut lists = ListsMut {
         pents,
         edges,
         triangles,
         tets,
-        tri_to_pents_items,
-        tri_to_pents_starts,
-        edge_to_tris_items,
-        edge_to_tris_starts,
-        edge_to_pents_items,
-        edge_to_pents_starts,
-    );
-    *counts = counts_list(built.counts_or(counts_of(*counts)));
-    *place = built.place();
-    built.number()
+        tri_to_pents: AdjacencyListMut {
+            items: tri_to_pents_items,
+            starts: tri_to_pents_starts,
+        },
+        edge_to_tris: AdjacencyListMut {
+            items: edge_to_tris_items,
+            starts: edge_to_tris_starts,
+        },
+        edge_to_pents: AdjacencyListMut {
+            items: edge_to_pents_items,
+            starts: edge_to_pents_starts,
+        },
+    };
+    let built = from_pentachorons(n_vertices, given, &mut lists);
+    *counts = counts_list(built.unwrap_or(counts_of(*counts)));
+    *place = place_in(&built);
+    number_in(&built)
 }
 
 #[unsafe(no_mangle)]
@@ -287,8 +294,8 @@ pub extern "C" fn cjapthumi_check_built(
         edge_to_pents_items.now edge_to_pents_starts.now)
         pent_edges.old pent_tris.old result pent_edges.new pent_tris.new }
 {
-    let outcome = check_built(
-        counts_of(*counts),
+    let complex = complex_of(
+        counts,
         pents,
         edges,
         triangles,
@@ -299,10 +306,13 @@ pub extern "C" fn cjapthumi_check_built(
         edge_to_tris_starts,
         edge_to_pents_items,
         edge_to_pents_starts,
+    );
+    let outcome = check_built(
+        &complex,
         pent_edges,
         pent_tris,
     );
-    outcome.number()
+    number_in(&outcome)
 }
 
 // ---- lattices
@@ -318,8 +328,8 @@ pub extern "C" fn cjapthumi_foliated_hypercubic(
     ensures { Listed (lattice_of n_t n_s) pents.old count.old result pents.new count.new }
 {
     let listed = foliated_hypercubic(lattice_of(n_t, n_s), pents);
-    *count = listed.count_or(*count);
-    listed.number()
+    *count = listed.unwrap_or(*count);
+    number_in(&listed)
 }
 
 // A type is 0 for Spatial, 1 for Timelike and 2 for Diagonal.
@@ -345,9 +355,8 @@ pub extern "C" fn cjapthumi_edge_types(
         edge_to_pents_items.now edge_to_pents_starts.now)
         (types_of (lattice_of n_t n_s) (edges_in (counts_of_list counts.now) edges.now)) types.old result types.new }
 {
-    let outcome = edge_types(
-        lattice_of(n_t, n_s),
-        counts_of(*counts),
+    let complex = complex_of(
+        counts,
         pents,
         edges,
         triangles,
@@ -358,9 +367,13 @@ pub extern "C" fn cjapthumi_edge_types(
         edge_to_tris_starts,
         edge_to_pents_items,
         edge_to_pents_starts,
+    );
+    let outcome = edge_types(
+        lattice_of(n_t, n_s),
+        &complex,
         types,
     );
-    outcome.number()
+    number_in(&outcome)
 }
 
 #[unsafe(no_mangle)]
@@ -387,9 +400,8 @@ pub extern "C" fn cjapthumi_flat_minkowski_sq_lengths(
         edge_to_pents_items.now edge_to_pents_starts.now)
         (lengths_of (lattice_of n_t n_s) (edges_in (counts_of_list counts.now) edges.now) spacing dt) sq_lengths.old result sq_lengths.new }
 {
-    let outcome = flat_minkowski_sq_lengths(
-        lattice_of(n_t, n_s),
-        counts_of(*counts),
+    let complex = complex_of(
+        counts,
         pents,
         edges,
         triangles,
@@ -400,11 +412,15 @@ pub extern "C" fn cjapthumi_flat_minkowski_sq_lengths(
         edge_to_tris_starts,
         edge_to_pents_items,
         edge_to_pents_starts,
+    );
+    let outcome = flat_minkowski_sq_lengths(
+        lattice_of(n_t, n_s),
+        &complex,
         spacing,
         dt,
         sq_lengths,
     );
-    outcome.number()
+    number_in(&outcome)
 }
 
 // Two sizes as a lattice.

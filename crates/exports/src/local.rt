@@ -7,10 +7,11 @@ ghost use Rattle.hessian.specs.Hessian.{local_hessian};
 ghost use Rattle.boundary.specs.Hinges.{faces_lent, checking};
 ghost use Rattle.boundary.specs.Local.{LocalTable, LocalFill};
 
-use boundary::counts_of;
+use boundary::complex_of;
 use local_regge::{
     local_deficit_angles, local_lorentzian_regge_action_grad, local_lorentzian_regge_hessian,
 };
+use refusals::number_in;
 
 // `count` gets how many hinges there are.
 #[unsafe(no_mangle)]
@@ -38,8 +39,8 @@ pub extern "C" fn cjapthumi_local_deficit_angles<'a>(
         edge_to_pents_items.now edge_to_pents_starts.now)
         sq_lengths.now free_edges.now tris.old deficits.old kinds.old count.old result tris.new deficits.new kinds.new count.new }
 {
-    let answer = local_deficit_angles(
-        counts_of(*counts),
+    let complex = complex_of(
+        counts,
         pents,
         edges,
         triangles,
@@ -50,14 +51,17 @@ pub extern "C" fn cjapthumi_local_deficit_angles<'a>(
         edge_to_tris_starts,
         edge_to_pents_items,
         edge_to_pents_starts,
+    );
+    let answer = local_deficit_angles(
+        &complex,
         sq_lengths,
         free_edges,
         tris,
         deficits,
         kinds,
     );
-    *count = answer.count_or(*count);
-    answer.number()
+    *count = answer.unwrap_or(*count);
+    number_in(&answer)
 }
 
 #[unsafe(no_mangle)]
@@ -86,8 +90,8 @@ pub extern "C" fn cjapthumi_local_lorentzian_regge_action_grad<'a>(
         edge_to_pents_items.now edge_to_pents_starts.now)) sq_lengths.now free_edges.now)
         grad.old result grad.new }
 {
-    let answer = local_lorentzian_regge_action_grad(
-        counts_of(*counts),
+    let complex = complex_of(
+        counts,
         pents,
         edges,
         triangles,
@@ -98,11 +102,14 @@ pub extern "C" fn cjapthumi_local_lorentzian_regge_action_grad<'a>(
         edge_to_tris_starts,
         edge_to_pents_items,
         edge_to_pents_starts,
+    );
+    let answer = local_lorentzian_regge_action_grad(
+        &complex,
         sq_lengths,
         free_edges,
         grad,
     );
-    answer.number()
+    number_in(&answer)
 }
 
 #[unsafe(no_mangle)]
@@ -132,8 +139,8 @@ pub extern "C" fn cjapthumi_local_lorentzian_regge_hessian<'a>(
         edge_to_pents_items.now edge_to_pents_starts.now)) sq_lengths.now free_edges.now fd_eps)
         hessian.old result hessian.new }
 {
-    let answer = local_lorentzian_regge_hessian(
-        counts_of(*counts),
+    let complex = complex_of(
+        counts,
         pents,
         edges,
         triangles,
@@ -144,10 +151,13 @@ pub extern "C" fn cjapthumi_local_lorentzian_regge_hessian<'a>(
         edge_to_tris_starts,
         edge_to_pents_items,
         edge_to_pents_starts,
+    );
+    let answer = local_lorentzian_regge_hessian(
+        &complex,
         sq_lengths,
         free_edges,
         fd_eps,
         hessian,
     );
-    answer.number()
+    number_in(&answer)
 }

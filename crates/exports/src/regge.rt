@@ -6,13 +6,14 @@ ghost use Rattle.complex.specs.Builder.{lists};
 ghost use Rattle.boundary.specs.Hinges.{checking, Tabled, HingeCall, ActionCall, Graded};
 ghost use Rattle.exports.specs.Signs.{signs_list};
 
-use boundary::counts_of;
+use boundary::complex_of;
 use incidence::TriangleNumber;
 use length_signs::{LengthSigns, length_signs};
 use lorentzian_regge::{
     lorentzian_deficit_angle, lorentzian_deficit_angles, lorentzian_regge_action,
     lorentzian_regge_action_grad,
 };
+use refusals::number_in;
 
 #[unsafe(no_mangle)]
 pub extern "C" fn cjapthumi_lorentzian_deficit_angles<'a>(
@@ -36,8 +37,8 @@ pub extern "C" fn cjapthumi_lorentzian_deficit_angles<'a>(
         edge_to_pents_items.now edge_to_pents_starts.now)
         sq_lengths.now deficits.old kinds.old result deficits.new kinds.new }
 {
-    let answer = lorentzian_deficit_angles(
-        counts_of(*counts),
+    let complex = complex_of(
+        counts,
         pents,
         edges,
         triangles,
@@ -48,11 +49,14 @@ pub extern "C" fn cjapthumi_lorentzian_deficit_angles<'a>(
         edge_to_tris_starts,
         edge_to_pents_items,
         edge_to_pents_starts,
+    );
+    let answer = lorentzian_deficit_angles(
+        &complex,
         sq_lengths,
         deficits,
         kinds,
     );
-    answer.number()
+    number_in(&answer)
 }
 
 #[unsafe(no_mangle)]
@@ -78,8 +82,8 @@ pub extern "C" fn cjapthumi_lorentzian_deficit_angle<'a>(
         edge_to_pents_items.now edge_to_pents_starts.now)
         sq_lengths.now tri deficit.old kind.old result deficit.new kind.new }
 {
-    let answer = lorentzian_deficit_angle(
-        counts_of(*counts),
+    let complex = complex_of(
+        counts,
         pents,
         edges,
         triangles,
@@ -90,12 +94,17 @@ pub extern "C" fn cjapthumi_lorentzian_deficit_angle<'a>(
         edge_to_tris_starts,
         edge_to_pents_items,
         edge_to_pents_starts,
+    );
+    let answer = lorentzian_deficit_angle(
+        &complex,
         sq_lengths,
         TriangleNumber(tri),
     );
-    *deficit = answer.deficit_or(*deficit);
-    *kind = answer.kind_byte_or(*kind);
-    answer.number()
+    if let Ok(hinge) = answer {
+        *deficit = hinge.deficit;
+        *kind = hinge.kind.number();
+    }
+    number_in(&answer)
 }
 
 #[unsafe(no_mangle)]
@@ -119,8 +128,8 @@ pub extern "C" fn cjapthumi_lorentzian_regge_action<'a>(
         edge_to_pents_items.now edge_to_pents_starts.now)
         sq_lengths.now action.old result action.new }
 {
-    let answer = lorentzian_regge_action(
-        counts_of(*counts),
+    let complex = complex_of(
+        counts,
         pents,
         edges,
         triangles,
@@ -131,10 +140,13 @@ pub extern "C" fn cjapthumi_lorentzian_regge_action<'a>(
         edge_to_tris_starts,
         edge_to_pents_items,
         edge_to_pents_starts,
+    );
+    let answer = lorentzian_regge_action(
+        &complex,
         sq_lengths,
     );
-    *action = answer.value_or(*action);
-    answer.number()
+    *action = answer.unwrap_or(*action);
+    number_in(&answer)
 }
 
 #[unsafe(no_mangle)]
@@ -158,8 +170,8 @@ pub extern "C" fn cjapthumi_lorentzian_regge_action_grad<'a>(
         edge_to_pents_items.now edge_to_pents_starts.now)
         sq_lengths.now grad.old result grad.new }
 {
-    let answer = lorentzian_regge_action_grad(
-        counts_of(*counts),
+    let complex = complex_of(
+        counts,
         pents,
         edges,
         triangles,
@@ -170,10 +182,13 @@ pub extern "C" fn cjapthumi_lorentzian_regge_action_grad<'a>(
         edge_to_tris_starts,
         edge_to_pents_items,
         edge_to_pents_starts,
+    );
+    let answer = lorentzian_regge_action_grad(
+        &complex,
         sq_lengths,
         grad,
     );
-    answer.number()
+    number_in(&answer)
 }
 
 // `signs` gets the counts of timelike, null and spacelike lengths.

@@ -4,9 +4,10 @@ ghost use Rattle.complex.specs.Builder.{lists};
 ghost use Rattle.boundary.specs.Hinges.{checking};
 ghost use Rattle.boundary.specs.Retouching.{TableRetouch};
 
-use boundary::counts_of;
+use boundary::complex_of;
 use incidence::EdgeNumber;
 use retouch::retouch;
+use refusals::number_in;
 
 // Stores `sq_length` at `edge` and brings the deficits and kinds up to date.
 #[unsafe(no_mangle)]
@@ -33,8 +34,8 @@ pub extern "C" fn cjapthumi_retouch<'a>(
         edge_to_pents_items.now edge_to_pents_starts.now)
         sq_lengths.old edge sq_length deficits.old kinds.old result sq_lengths.new deficits.new kinds.new }
 {
-    let answer = retouch(
-        counts_of(*counts),
+    let complex = complex_of(
+        counts,
         pents,
         edges,
         triangles,
@@ -45,11 +46,14 @@ pub extern "C" fn cjapthumi_retouch<'a>(
         edge_to_tris_starts,
         edge_to_pents_items,
         edge_to_pents_starts,
+    );
+    let answer = retouch(
+        &complex,
         sq_lengths,
         EdgeNumber(edge),
         sq_length,
         deficits,
         kinds,
     );
-    answer.number()
+    number_in(&answer)
 }

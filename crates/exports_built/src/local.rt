@@ -8,11 +8,14 @@ ghost use Rattle.boundary.specs.Counts.{counts_of_list};
 ghost use Rattle.boundary.specs.Hinges.{faces_lent, trusting};
 ghost use Rattle.boundary.specs.Local.{LocalTable, LocalFill};
 
-use boundary::counts_of;
+use boundary::complex_of;
+use calls::BuiltComplex;
+use complex::Incidence;
 use local_regge::{
     local_deficit_angles_built, local_lorentzian_regge_action_grad_built,
     local_lorentzian_regge_hessian_built,
 };
+use refusals::number_in;
 
 // The triangles on free edges, their deficits and kinds; `count` gets how many there are.
 #[unsafe(no_mangle)]
@@ -46,8 +49,8 @@ pub extern "C" fn cjapthumi_local_deficit_angles_built<'a>(
         edge_to_pents_items.now edge_to_pents_starts.now)
         sq_lengths.now free_edges.now tris.old deficits.old kinds.old count.old result tris.new deficits.new kinds.new count.new }
 {
-    let answer = local_deficit_angles_built(
-        counts_of(*counts),
+    let complex = complex_of(
+        counts,
         pents,
         edges,
         triangles,
@@ -58,16 +61,24 @@ pub extern "C" fn cjapthumi_local_deficit_angles_built<'a>(
         edge_to_tris_starts,
         edge_to_pents_items,
         edge_to_pents_starts,
-        pent_edges,
-        pent_tris,
+    );
+    let built = BuiltComplex {
+        complex,
+        incidence: Incidence {
+            pent_edges,
+            pent_tris,
+        },
+    };
+    let answer = local_deficit_angles_built(
+        &built,
         sq_lengths,
         free_edges,
         tris,
         deficits,
         kinds,
     );
-    *count = answer.count_or(*count);
-    answer.number()
+    *count = answer.unwrap_or(*count);
+    number_in(&answer)
 }
 
 // The gradient's entry at each free edge.
@@ -103,8 +114,8 @@ pub extern "C" fn cjapthumi_local_lorentzian_regge_action_grad_built<'a>(
         edge_to_pents_items.now edge_to_pents_starts.now)) sq_lengths.now free_edges.now)
         grad.old result grad.new }
 {
-    let answer = local_lorentzian_regge_action_grad_built(
-        counts_of(*counts),
+    let complex = complex_of(
+        counts,
         pents,
         edges,
         triangles,
@@ -115,13 +126,21 @@ pub extern "C" fn cjapthumi_local_lorentzian_regge_action_grad_built<'a>(
         edge_to_tris_starts,
         edge_to_pents_items,
         edge_to_pents_starts,
-        pent_edges,
-        pent_tris,
+    );
+    let built = BuiltComplex {
+        complex,
+        incidence: Incidence {
+            pent_edges,
+            pent_tris,
+        },
+    };
+    let answer = local_lorentzian_regge_action_grad_built(
+        &built,
         sq_lengths,
         free_edges,
         grad,
     );
-    answer.number()
+    number_in(&answer)
 }
 
 // The action's second derivatives at free edges, row after row.
@@ -158,8 +177,8 @@ pub extern "C" fn cjapthumi_local_lorentzian_regge_hessian_built<'a>(
         edge_to_pents_items.now edge_to_pents_starts.now)) sq_lengths.now free_edges.now fd_eps)
         hessian.old result hessian.new }
 {
-    let answer = local_lorentzian_regge_hessian_built(
-        counts_of(*counts),
+    let complex = complex_of(
+        counts,
         pents,
         edges,
         triangles,
@@ -170,12 +189,20 @@ pub extern "C" fn cjapthumi_local_lorentzian_regge_hessian_built<'a>(
         edge_to_tris_starts,
         edge_to_pents_items,
         edge_to_pents_starts,
-        pent_edges,
-        pent_tris,
+    );
+    let built = BuiltComplex {
+        complex,
+        incidence: Incidence {
+            pent_edges,
+            pent_tris,
+        },
+    };
+    let answer = local_lorentzian_regge_hessian_built(
+        &built,
         sq_lengths,
         free_edges,
         fd_eps,
         hessian,
     );
-    answer.number()
+    number_in(&answer)
 }

@@ -4,12 +4,15 @@ ghost use Rattle.calls.specs.Calls.{BuiltWith};
 ghost use Rattle.boundary.specs.Counts.{counts_of_list};
 ghost use Rattle.boundary.specs.Hinges.{trusting, Tabled, HingeCall, ActionCall, Graded};
 
-use boundary::counts_of;
+use boundary::complex_of;
+use calls::BuiltComplex;
+use complex::Incidence;
 use incidence::TriangleNumber;
 use lorentzian_regge::{
     lorentzian_deficit_angle_built, lorentzian_deficit_angles_built, lorentzian_regge_action_built,
     lorentzian_regge_action_grad_built,
 };
+use refusals::number_in;
 
 // The deficits and kinds of all triangles.
 #[unsafe(no_mangle)]
@@ -40,8 +43,8 @@ pub extern "C" fn cjapthumi_lorentzian_deficit_angles_built<'a>(
         edge_to_pents_items.now edge_to_pents_starts.now)
         sq_lengths.now deficits.old kinds.old result deficits.new kinds.new }
 {
-    let answer = lorentzian_deficit_angles_built(
-        counts_of(*counts),
+    let complex = complex_of(
+        counts,
         pents,
         edges,
         triangles,
@@ -52,13 +55,21 @@ pub extern "C" fn cjapthumi_lorentzian_deficit_angles_built<'a>(
         edge_to_tris_starts,
         edge_to_pents_items,
         edge_to_pents_starts,
-        pent_edges,
-        pent_tris,
+    );
+    let built = BuiltComplex {
+        complex,
+        incidence: Incidence {
+            pent_edges,
+            pent_tris,
+        },
+    };
+    let answer = lorentzian_deficit_angles_built(
+        &built,
         sq_lengths,
         deficits,
         kinds,
     );
-    answer.number()
+    number_in(&answer)
 }
 
 // The deficit and the kind of one triangle.
@@ -91,8 +102,8 @@ pub extern "C" fn cjapthumi_lorentzian_deficit_angle_built<'a>(
         edge_to_pents_items.now edge_to_pents_starts.now)
         sq_lengths.now tri deficit.old kind.old result deficit.new kind.new }
 {
-    let answer = lorentzian_deficit_angle_built(
-        counts_of(*counts),
+    let complex = complex_of(
+        counts,
         pents,
         edges,
         triangles,
@@ -103,14 +114,24 @@ pub extern "C" fn cjapthumi_lorentzian_deficit_angle_built<'a>(
         edge_to_tris_starts,
         edge_to_pents_items,
         edge_to_pents_starts,
-        pent_edges,
-        pent_tris,
+    );
+    let built = BuiltComplex {
+        complex,
+        incidence: Incidence {
+            pent_edges,
+            pent_tris,
+        },
+    };
+    let answer = lorentzian_deficit_angle_built(
+        &built,
         sq_lengths,
         TriangleNumber(tri),
     );
-    *deficit = answer.deficit_or(*deficit);
-    *kind = answer.kind_byte_or(*kind);
-    answer.number()
+    if let Ok(hinge) = answer {
+        *deficit = hinge.deficit;
+        *kind = hinge.kind.number();
+    }
+    number_in(&answer)
 }
 
 // The action.
@@ -141,8 +162,8 @@ pub extern "C" fn cjapthumi_lorentzian_regge_action_built<'a>(
         edge_to_pents_items.now edge_to_pents_starts.now)
         sq_lengths.now action.old result action.new }
 {
-    let answer = lorentzian_regge_action_built(
-        counts_of(*counts),
+    let complex = complex_of(
+        counts,
         pents,
         edges,
         triangles,
@@ -153,12 +174,20 @@ pub extern "C" fn cjapthumi_lorentzian_regge_action_built<'a>(
         edge_to_tris_starts,
         edge_to_pents_items,
         edge_to_pents_starts,
-        pent_edges,
-        pent_tris,
+    );
+    let built = BuiltComplex {
+        complex,
+        incidence: Incidence {
+            pent_edges,
+            pent_tris,
+        },
+    };
+    let answer = lorentzian_regge_action_built(
+        &built,
         sq_lengths,
     );
-    *action = answer.value_or(*action);
-    answer.number()
+    *action = answer.unwrap_or(*action);
+    number_in(&answer)
 }
 
 // The action's gradient, an entry for each edge.
@@ -189,8 +218,8 @@ pub extern "C" fn cjapthumi_lorentzian_regge_action_grad_built<'a>(
         edge_to_pents_items.now edge_to_pents_starts.now)
         sq_lengths.now grad.old result grad.new }
 {
-    let answer = lorentzian_regge_action_grad_built(
-        counts_of(*counts),
+    let complex = complex_of(
+        counts,
         pents,
         edges,
         triangles,
@@ -201,10 +230,18 @@ pub extern "C" fn cjapthumi_lorentzian_regge_action_grad_built<'a>(
         edge_to_tris_starts,
         edge_to_pents_items,
         edge_to_pents_starts,
-        pent_edges,
-        pent_tris,
+    );
+    let built = BuiltComplex {
+        complex,
+        incidence: Incidence {
+            pent_edges,
+            pent_tris,
+        },
+    };
+    let answer = lorentzian_regge_action_grad_built(
+        &built,
         sq_lengths,
         grad,
     );
-    answer.number()
+    number_in(&answer)
 }

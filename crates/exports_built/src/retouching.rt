@@ -5,9 +5,12 @@ ghost use Rattle.boundary.specs.Counts.{counts_of_list};
 ghost use Rattle.boundary.specs.Hinges.{trusting};
 ghost use Rattle.boundary.specs.Retouching.{TableRetouch};
 
-use boundary::counts_of;
+use boundary::complex_of;
+use calls::BuiltComplex;
+use complex::Incidence;
 use incidence::EdgeNumber;
 use retouch::retouch_built;
+use refusals::number_in;
 
 // Stores `sq_length` at `edge` and brings the deficits and kinds up to date.
 #[unsafe(no_mangle)]
@@ -40,8 +43,8 @@ pub extern "C" fn cjapthumi_retouch_built<'a>(
         edge_to_pents_items.now edge_to_pents_starts.now)
         sq_lengths.old edge sq_length deficits.old kinds.old result sq_lengths.new deficits.new kinds.new }
 {
-    let answer = retouch_built(
-        counts_of(*counts),
+    let complex = complex_of(
+        counts,
         pents,
         edges,
         triangles,
@@ -52,13 +55,21 @@ pub extern "C" fn cjapthumi_retouch_built<'a>(
         edge_to_tris_starts,
         edge_to_pents_items,
         edge_to_pents_starts,
-        pent_edges,
-        pent_tris,
+    );
+    let built = BuiltComplex {
+        complex,
+        incidence: Incidence {
+            pent_edges,
+            pent_tris,
+        },
+    };
+    let answer = retouch_built(
+        &built,
         sq_lengths,
         EdgeNumber(edge),
         sq_length,
         deficits,
         kinds,
     );
-    answer.number()
+    number_in(&answer)
 }

@@ -1,4 +1,6 @@
 -- Demand 3 for a table that is a list of records, from the contract of the retouch on such a table. Assumes nothing.
+use Rattle.refusals.specs.Refusals.{Done, Outcome}
+use Rattle.std.specs.Prelude.{Err}
 use Prim.Native.Nat.{ℕ, ◌<◌}
 use mathlib.Core.List.{List}
 use mathlib.Core.Path.{◌≡◌, refl, sym, ◌∙◌, subst}
@@ -6,8 +8,6 @@ use native.Mathlib.Omega.{arith}
 use lib.Ieee.{Float, nan}
 use lib.ListN.{length, set}
 use Rattle.refusals.specs.declared.Refusal.{Refusal}
-use Rattle.refusals.specs.declared.Outcome.{Outcome}
-use Rattle.refusals.specs.declared.Outcome.TheVariants.{Done, Refused}
 use Rattle.lists.specs.Writes.{writes}
 use Rattle.lists.proofs.Tests.{said}
 use Rattle.lists.proofs.Rows.{length-rows}
@@ -29,7 +29,7 @@ use Rattle.hinge_table.proofs.TableSteps.{records-room}
 
 -- a refused call changes nothing
 pub table-refused : {o : Outcome} {F : FaceLists} {ls : List Float} {e : ℕ} {x : Float} {table : List Hinge} {r : Outcome} {ls' : List Float} {table' : List Hinge} {q : Refusal}
-    → TableRetouched o F ls e x table r ls' table' → r ≡ Refused q → (ls' ≡ ls) × (table' ≡ table)
+    → TableRetouched o F ls e x table r ls' table' → r ≡ Err q → (ls' ≡ ls) × (table' ≡ table)
 table-refused left h = (left.lengths ∙ (rw h refl), left.records ∙ (rw h refl))
 
 module _ (c : Counts) (l : Lists) (ls : List Float) (e : ℕ) (x : Float) (table : List Hinge) (r : Outcome) (ls' : List Float) (table' : List Hinge) where

@@ -1,12 +1,10 @@
 -- What the steps of calls on a table of records ask and leave. Definitions only.
-use Rattle.std.specs.Prelude.{ℕ, ◌≤◌, ◌<◌, List, [], ◌≡◌, length, get_or, take}
-use Rattle.refusals.specs.declared.Outcome.{Outcome}
+use Rattle.refusals.specs.declared.Refusal.{Refusal}
+use Rattle.refusals.specs.Refusals.{Done, Outcome, answer_by, value_or}
+use Rattle.std.specs.Prelude.{ℕ, ◌≤◌, ◌<◌, List, [], ◌≡◌, length, get_or, take, Err, Ok, Result}
 use Rattle.complex.specs.declared.Counts.{Counts}
 use Rattle.complex.specs.Builder.{Lists}
 use Rattle.hinges.specs.Parts.{Measured}
-use Rattle.calls.specs.declared.LocalAnswer.{LocalAnswer}
-use Rattle.calls.specs.declared.LocalAnswer.TheVariants.{Done, Refused}
-use Rattle.calls.specs.Calls.{count_by, count_or}
 use Rattle.retouch.specs.Retouch.{after}
 
 -- what is asked where `count` records are written to a table of `records` places: each has a triangle, and where there is one the complex is measured
@@ -17,12 +15,12 @@ pub record Ready (c : Counts) (pents edges triangles items ss pe pt : List ℕ) 
   pub below : (k : ℕ) → k < count → get_or tris k 0 < c.triangles
 
 -- what the first step leaves for the records of the triangles ts, where the checks say o: its answer, and three lists of scratch
-pub record Begun (o : Outcome) (c : Counts) (l : Lists) (ts : List ℕ) (n records : ℕ) (answer : LocalAnswer) (pe pt tris : List ℕ) : Type 0 where
-  pub answered : answer ≡ count_by o (length ts)
-  pub places : take (count_or answer 0) tris ≡ after o ts []
-  pub ready : Ready c l.pents l.edges l.triangles l.tri_to_pents l.tri_to_pents_starts pe pt n (count_or answer 0) tris records
+pub record Begun (o : Outcome) (c : Counts) (l : Lists) (ts : List ℕ) (n records : ℕ) (answer : (Result ℕ Refusal)) (pe pt tris : List ℕ) : Type 0 where
+  pub answered : answer ≡ answer_by o (length ts)
+  pub places : take (value_or answer 0) tris ≡ after o ts []
+  pub ready : Ready c l.pents l.edges l.triangles l.tri_to_pents l.tri_to_pents_starts pe pt n (value_or answer 0) tris records
 
 -- the outcome of an answer
-abbrev pub outcome_of : LocalAnswer → Outcome
-outcome_of (Done n) = Outcome.Done
-outcome_of (Refused r) = Outcome.Refused r
+abbrev pub outcome_of : Result ℕ Refusal → Outcome
+outcome_of (Ok n) = Done
+outcome_of (Err r) = Err r

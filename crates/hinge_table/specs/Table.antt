@@ -1,6 +1,6 @@
 -- The table of hinges as a list of records: what working it out anew and a retouch answer and leave. Definitions only.
+use Rattle.refusals.specs.Refusals.{Outcome}
 use Rattle.std.specs.Prelude.{ℕ, Bool, List, ◌≡◌, ltb, Float, set}
-use Rattle.refusals.specs.declared.Outcome.{Outcome}
 use Rattle.lists.specs.Writes.{writes}
 use Rattle.complex.specs.declared.Counts.{Counts}
 use Rattle.complex.specs.Check.{written_after}

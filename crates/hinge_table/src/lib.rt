@@ -1,276 +1,129 @@
-// The table of hinges as a lent slice of records: working it out anew, and the retouch. Both are thin: checks, incidence, the
-// triangles to be written and their records come from the crates below; here records are stored.
+// The table of hinges as a lent slice of records: working it out anew, and the retouch. Checks, incidence, the triangles to be written
+// and their records come from the crates below; here records are stored.
 #![tactic(auto)]
 
-mod begin;
-
-ghost use Rattle.std.specs.Prelude.{◌≡◌, length, take};
+ghost use Rattle.std.specs.Prelude.{◌≡◌, ◌≤◌, ◌<◌, ℕ, length, get_or, take};
 ghost use Rattle.lists.specs.Writes.{writes};
-ghost use Rattle.complex.specs.Builder.{lists};
-ghost use Rattle.hinges.specs.Hinges.{faces_in, hinges, hinge_in};
+ghost use Rattle.lists.specs.Rows.{over};
+ghost use Rattle.complex.specs.Lent.{lists_of};
+ghost use Rattle.hinges.specs.Hinges.{faces_of, hinges, hinge_in};
+ghost use Rattle.hinges.specs.Parts.{IsMeasured};
 ghost use Rattle.calls.specs.Calls.{built_check_of, lengths_check_of, room_check_of};
 ghost use Rattle.retouch.specs.Retouch.{edge_check_of};
-ghost use Rattle.hinge_table.specs.Parts.{Ready};
 ghost use Rattle.hinge_table.specs.Table.{short_records, TableWorked, TableRetouched};
 
-use begin::{begin_retouch, begin_table, outcome_of, place_at, record_at};
-use complex::Counts;
+use calls::{BuiltComplex, check_lengths, check_room};
+use comparison::is_built_noting;
+use complex::{Complex, Incidence};
+use hinges::hinge_at;
 pub use hinges::Hinge;
-use incidence::EdgeNumber;
-use refusals::Outcome;
+use incidence::{EdgeNumber, TriangleNumber};
+use refusals::Refusal;
+use retouch::{check_edge, list_touched};
 
-// Writes the records of the first `count` triangles of a list, each at its own place.
-fn write_records<'a>(
-    counts: Counts,
-    pents: &'a [u32],
-    edges: &'a [u32],
-    triangles: &'a [u32],
-    tri_to_pents_items: &'a [u32],
-    tri_to_pents_starts: &'a [u32],
-    pent_edges: &'a [u32],
-    pent_tris: &'a [u32],
-    sq_lengths: &'a [f64],
-    count: usize,
-    tris: &'a [u32],
+// ---- all records
+
+// Writes the records of all triangles.
+fn write_all(
+    complex: &Complex<'_>,
+    incidence: &Incidence<'_>,
+    sq_lengths: &[f64],
     table: &mut [Hinge],
 )
-    requires { Ready counts pents.now edges.now triangles.now tri_to_pents_items.now tri_to_pents_starts.now pent_edges.now pent_tris.now (length sq_lengths.now) count tris.now (length table.old) }
-    ensures { table.new ≡ writes (hinge_in (hinges (faces_in counts pents.now edges.now triangles.now) sq_lengths.now)) (take count tris.now) table.old }
+    requires { IsMeasured complex.now incidence.now (length sq_lengths.now) × (complex.now.counts.triangles ≤ length table.old) }
+    ensures { table.new ≡ over (hinges (faces_of complex.now) sq_lengths.now) table.old }
 {
-    let mut k: usize = 0;
-    while k < count {
-        let at = place_at(tris, k);
-        let hinge = record_at(
-            counts,
-            pents,
-            edges,
-            triangles,
-            tri_to_pents_items,
-            tri_to_pents_starts,
-            pent_edges,
-            pent_tris,
-            sq_lengths,
-            at,
-        );
-        table[at] = hinge;
-        k += 1;
+    for t in 0..complex.counts.triangles {
+        table[t] = hinge_at(complex, incidence, sq_lengths, TriangleNumber(t as u32));
     }
 }
 
 // All hinges: each triangle's record is worked out anew and written at its place. The table may be longer than there are triangles;
 // a refused call leaves it as it was.
-pub fn lorentzian_deficit_angles<'a>(
-    counts: Counts,
-    pents: &'a [u32],
-    edges: &'a [u32],
-    triangles: &'a [u32],
-    tets: &'a [u32],
-    tri_to_pents_items: &'a [u32],
-    tri_to_pents_starts: &'a [u32],
-    edge_to_tris_items: &'a [u32],
-    edge_to_tris_starts: &'a [u32],
-    edge_to_pents_items: &'a [u32],
-    edge_to_pents_starts: &'a [u32],
-    sq_lengths: &'a [f64],
+pub fn lorentzian_deficit_angles(
+    complex: &Complex<'_>,
+    sq_lengths: &[f64],
     table: &mut [Hinge],
-) -> Outcome
-    ensures { TableWorked (built_check_of counts (lists pents.now edges.now triangles.now tets.now
-        tri_to_pents_items.now tri_to_pents_starts.now edge_to_tris_items.now edge_to_tris_starts.now
-        edge_to_pents_items.now edge_to_pents_starts.now)
-        (lengths_check_of counts (length sq_lengths.now) (room_check_of (short_records counts (length table.old)))))
-        (faces_in counts pents.now edges.now triangles.now) sq_lengths.now table.old result table.new }
+) -> Result<(), Refusal>
+    ensures { TableWorked (built_check_of complex.now.counts (lists_of complex.now)
+        (lengths_check_of complex.now.counts (length sq_lengths.now) (room_check_of (short_records complex.now.counts (length table.old)))))
+        (faces_of complex.now) sq_lengths.now table.old result table.new }
 {
     let mut pent_edges = [0u32; 81920];
     let mut pent_tris = [0u32; 81920];
-    let mut tris = [0u32; 81920];
-    let answer = begin_table(
-        counts,
-        pents,
-        edges,
-        triangles,
-        tets,
-        tri_to_pents_items,
-        tri_to_pents_starts,
-        edge_to_tris_items,
-        edge_to_tris_starts,
-        edge_to_pents_items,
-        edge_to_pents_starts,
-        sq_lengths.len(),
-        table.len(),
-        &mut pent_edges,
-        &mut pent_tris,
-        &mut tris,
-    );
-    write_records(
-        counts,
-        pents,
-        edges,
-        triangles,
-        tri_to_pents_items,
-        tri_to_pents_starts,
-        &pent_edges,
-        &pent_tris,
-        sq_lengths,
-        answer.count_or(0),
-        &tris,
-        table,
-    );
-    outcome_of(answer)
+    if !is_built_noting(complex, &mut pent_edges, &mut pent_tris) {
+        return Err(Refusal::NotBuilt);
+    }
+    let incidence = Incidence {
+        pent_edges: &pent_edges,
+        pent_tris: &pent_tris,
+    };
+    let built = BuiltComplex {
+        complex: *complex,
+        incidence,
+    };
+    let counts = complex.counts;
+    check_lengths(counts, sq_lengths.len())?;
+    check_room(table.len() < counts.triangles)?;
+    write_all(&built.complex, &built.incidence, sq_lengths, table);
+    Ok(())
+}
+
+// ---- the retouch
+
+// Writes the records of the first `count` triangles of a list, each at its own place.
+fn write_records(
+    complex: &Complex<'_>,
+    incidence: &Incidence<'_>,
+    sq_lengths: &[f64],
+    count: usize,
+    tris: &[u32],
+    table: &mut [Hinge],
+)
+    requires { IsMeasured complex.now incidence.now (length sq_lengths.now)
+        × (count ≤ length tris.now) × ((k : ℕ) → k < count → get_or tris.now k 0 < complex.now.counts.triangles) × (complex.now.counts.triangles ≤ length table.old) }
+    ensures { table.new ≡ writes (hinge_in (hinges (faces_of complex.now) sq_lengths.now)) (take count tris.now) table.old }
+{
+    for k in 0..count {
+        let tri = tris[k];
+        table[tri as usize] = hinge_at(complex, incidence, sq_lengths, TriangleNumber(tri));
+    }
 }
 
 // The retouch: stores a new squared length at its edge and works out anew each triangle of each pentachoron that contains the edge,
 // from all pentachorons in which the triangle lies. No other record is written; the table may be longer than there are triangles. A
 // refused call leaves the lengths and the table as they were.
-pub fn retouch<'a>(
-    counts: Counts,
-    pents: &'a [u32],
-    edges: &'a [u32],
-    triangles: &'a [u32],
-    tets: &'a [u32],
-    tri_to_pents_items: &'a [u32],
-    tri_to_pents_starts: &'a [u32],
-    edge_to_tris_items: &'a [u32],
-    edge_to_tris_starts: &'a [u32],
-    edge_to_pents_items: &'a [u32],
-    edge_to_pents_starts: &'a [u32],
+pub fn retouch(
+    complex: &Complex<'_>,
     sq_lengths: &mut [f64],
     edge: EdgeNumber,
     sq_length: f64,
     table: &mut [Hinge],
-) -> Outcome
-    ensures { TableRetouched (built_check_of counts (lists pents.now edges.now triangles.now tets.now
-        tri_to_pents_items.now tri_to_pents_starts.now edge_to_tris_items.now edge_to_tris_starts.now
-        edge_to_pents_items.now edge_to_pents_starts.now)
-        (lengths_check_of counts (length sq_lengths.old) (edge_check_of counts edge.0 (room_check_of (short_records counts (length table.old))))))
-        (faces_in counts pents.now edges.now triangles.now) sq_lengths.old edge.0 sq_length table.old result sq_lengths.new table.new }
+) -> Result<(), Refusal>
+    ensures { TableRetouched (built_check_of complex.now.counts (lists_of complex.now)
+        (lengths_check_of complex.now.counts (length sq_lengths.old) (edge_check_of complex.now.counts edge.0 (room_check_of (short_records complex.now.counts (length table.old))))))
+        (faces_of complex.now) sq_lengths.old edge.0 sq_length table.old result sq_lengths.new table.new }
 {
     let mut pent_edges = [0u32; 81920];
     let mut pent_tris = [0u32; 81920];
+    if !is_built_noting(complex, &mut pent_edges, &mut pent_tris) {
+        return Err(Refusal::NotBuilt);
+    }
+    let incidence = Incidence {
+        pent_edges: &pent_edges,
+        pent_tris: &pent_tris,
+    };
+    let built = BuiltComplex {
+        complex: *complex,
+        incidence,
+    };
+    let counts = complex.counts;
+    check_lengths(counts, sq_lengths.len())?;
+    check_edge(counts, edge)?;
+    check_room(table.len() < counts.triangles)?;
     let mut tris = [0u32; 81920];
-    let answer = begin_retouch(
-        counts,
-        pents,
-        edges,
-        triangles,
-        tets,
-        tri_to_pents_items,
-        tri_to_pents_starts,
-        edge_to_tris_items,
-        edge_to_tris_starts,
-        edge_to_pents_items,
-        edge_to_pents_starts,
-        sq_lengths,
-        edge,
-        sq_length,
-        table.len(),
-        &mut pent_edges,
-        &mut pent_tris,
-        &mut tris,
-    );
-    write_records(
-        counts,
-        pents,
-        edges,
-        triangles,
-        tri_to_pents_items,
-        tri_to_pents_starts,
-        &pent_edges,
-        &pent_tris,
-        sq_lengths,
-        answer.count_or(0),
-        &tris,
-        table,
-    );
-    outcome_of(answer)
-}
-
-// What a call on a table by value answers: the outcome, and the table after the call.
-#[derive(Clone, Copy)]
-pub struct TableAnswer {
-    pub outcome: Outcome,
-    pub table: [Hinge; 640],
-}
-
-// All hinges of a complex of at most 640 triangles, in a table by value.
-pub fn lorentzian_deficit_angles_array<'a>(
-    counts: Counts,
-    pents: &'a [u32],
-    edges: &'a [u32],
-    triangles: &'a [u32],
-    tets: &'a [u32],
-    tri_to_pents_items: &'a [u32],
-    tri_to_pents_starts: &'a [u32],
-    edge_to_tris_items: &'a [u32],
-    edge_to_tris_starts: &'a [u32],
-    edge_to_pents_items: &'a [u32],
-    edge_to_pents_starts: &'a [u32],
-    sq_lengths: &'a [f64],
-    mut table: [Hinge; 640],
-) -> TableAnswer
-    ensures { TableWorked (built_check_of counts (lists pents.now edges.now triangles.now tets.now
-        tri_to_pents_items.now tri_to_pents_starts.now edge_to_tris_items.now edge_to_tris_starts.now
-        edge_to_pents_items.now edge_to_pents_starts.now)
-        (lengths_check_of counts (length sq_lengths.now) (room_check_of (short_records counts 640))))
-        (faces_in counts pents.now edges.now triangles.now) sq_lengths.now table result.outcome result.table }
-{
-    let outcome = lorentzian_deficit_angles(
-        counts,
-        pents,
-        edges,
-        triangles,
-        tets,
-        tri_to_pents_items,
-        tri_to_pents_starts,
-        edge_to_tris_items,
-        edge_to_tris_starts,
-        edge_to_pents_items,
-        edge_to_pents_starts,
-        sq_lengths,
-        &mut table,
-    );
-    TableAnswer { outcome, table }
-}
-
-// The retouch of a complex of at most 640 triangles, with the table by value.
-pub fn retouch_array<'a>(
-    counts: Counts,
-    pents: &'a [u32],
-    edges: &'a [u32],
-    triangles: &'a [u32],
-    tets: &'a [u32],
-    tri_to_pents_items: &'a [u32],
-    tri_to_pents_starts: &'a [u32],
-    edge_to_tris_items: &'a [u32],
-    edge_to_tris_starts: &'a [u32],
-    edge_to_pents_items: &'a [u32],
-    edge_to_pents_starts: &'a [u32],
-    sq_lengths: &mut [f64],
-    edge: EdgeNumber,
-    sq_length: f64,
-    mut table: [Hinge; 640],
-) -> TableAnswer
-    ensures { TableRetouched (built_check_of counts (lists pents.now edges.now triangles.now tets.now
-        tri_to_pents_items.now tri_to_pents_starts.now edge_to_tris_items.now edge_to_tris_starts.now
-        edge_to_pents_items.now edge_to_pents_starts.now)
-        (lengths_check_of counts (length sq_lengths.old) (edge_check_of counts edge.0 (room_check_of (short_records counts 640)))))
-        (faces_in counts pents.now edges.now triangles.now) sq_lengths.old edge.0 sq_length table result.outcome sq_lengths.new result.table }
-{
-    let outcome = retouch(
-        counts,
-        pents,
-        edges,
-        triangles,
-        tets,
-        tri_to_pents_items,
-        tri_to_pents_starts,
-        edge_to_tris_items,
-        edge_to_tris_starts,
-        edge_to_pents_items,
-        edge_to_pents_starts,
-        sq_lengths,
-        edge,
-        sq_length,
-        &mut table,
-    );
-    TableAnswer { outcome, table }
+    let count = list_touched(&built.complex, &built.incidence, edge, &mut tris);
+    sq_lengths[edge.0 as usize] = sq_length;
+    write_records(&built.complex, &built.incidence, sq_lengths, count, &tris, table);
+    Ok(())
 }

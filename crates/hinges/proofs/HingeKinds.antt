@@ -1,4 +1,5 @@
 -- The kinds of hinges, as values and as bytes, and two doubles of their deficits. Assumes nothing.
+use Rattle.std.specs.Prelude.{Option, Some, None}
 use Prim.Native.Nat.{ℕ, ◌<◌}
 use mathlib.Core.Path.{◌≡◌, refl, ap, ◌∙◌}
 use mathlib.Core.List.{List, [], ◌∷◌, map, foldl}
@@ -14,15 +15,13 @@ use Rattle.lorentzian.specs.declared.dihedral.HingeType.TheVariants.{Spacelike, 
 use Rattle.lorentzian.specs.declared.dihedral.Dihedral.{Dihedral}
 use Rattle.lorentzian.specs.Dihedral.{kind_of}
 use Rattle.hinges.specs.declared.hinge.Hinge.{Hinge}
-use Rattle.hinges.specs.declared.hinge.KindByte.{KindByte}
-use Rattle.hinges.specs.declared.hinge.KindByte.TheVariants.{Kind, NoKind}
 use Rattle.hinges.specs.Hinges.{FaceLists, byte_of, kind_in, known_or, pi, deficit_of, first, closed, hinge, hinges, hinge_in, dihedral_in}
 use Rattle.hinges.proofs.OnePass.{hinge-in}
 
 -- ---- the kind of a hinge
 
 -- a kind that is there stays
-first-stays : (k : HingeType) (ds : List Dihedral) → foldl first (Kind k) ds ≡ Kind k
+first-stays : (k : HingeType) (ds : List Dihedral) → foldl first (Some k) ds ≡ Some k
 unfolding first
 first-stays k [] = refl
 first-stays k (d ∷ ds) = first-stays k ds
@@ -30,7 +29,7 @@ first-stays k (d ∷ ds) = first-stays k ds
 -- the first dihedral decides
 pub kind-first : (d : Dihedral) (ds : List Dihedral) → (hinge (d ∷ ds)).kind ≡ kind_of d
 unfolding hinge closed first
-kind-first d ds = ap (λ (k : KindByte). known_or k Spacelike) (first-stays (kind_of d) ds)
+kind-first d ds = ap (λ (k : (Option HingeType)). known_or k Spacelike) (first-stays (kind_of d) ds)
 
 pub kind-none : (hinge []).kind ≡ Spacelike
 unfolding hinge closed
@@ -46,10 +45,10 @@ hinge-kind F ls ok five t h i rest e =
 -- ---- kinds as bytes
 
 -- a kind that is written is read again
-pub kind-byte : (k : KindByte) → kind_in (byte_of k) ≡ k
-kind-byte (Kind Spacelike) = refl
-kind-byte (Kind Timelike) = refl
-kind-byte NoKind = refl
+pub kind-byte : (k : (Option HingeType)) → kind_in (byte_of k) ≡ k
+kind-byte (Some Spacelike) = refl
+kind-byte (Some Timelike) = refl
+kind-byte None = refl
 
 -- ---- doubles
 

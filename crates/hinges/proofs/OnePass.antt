@@ -1,5 +1,7 @@
 -- The hinges of one pass over the pentachorons are those of each triangle by itself. Assumes nothing.
 -- The pentachorons of a triangle ascend: `holding-rising` (complex, Laws).
+use Rattle.std.specs.Prelude.{Option, None}
+use Rattle.lorentzian.specs.declared.dihedral.HingeType.{HingeType}
 use Prim.Native.Nat.{ℕ, ◌<◌}
 use mathlib.Core.Path.{◌≡◌, refl, sym, ap, ◌∙◌, subst}
 use mathlib.Core.Bool.{Bool, not, cond}
@@ -24,8 +26,6 @@ use Rattle.incidence.specs.Incidence.{Simplices, opposite_indices}
 use Rattle.incidence.proofs.Incident.{simplices-of}
 use Rattle.lorentzian.specs.declared.dihedral.Dihedral.{Dihedral}
 use Rattle.hinges.specs.declared.hinge.Hinge.{Hinge}
-use Rattle.hinges.specs.declared.hinge.KindByte.{KindByte}
-use Rattle.hinges.specs.declared.hinge.KindByte.TheVariants.{NoKind}
 use Rattle.hinges.specs.Hinges.{FaceLists, built_faces, plus, first, closed, hinge, pent_lengths, dihedral_of, local_pairs, without, dihedrals, pass_dihedrals, sums, first_kinds, hinges, hinge_in, dihedral_in, hinge_at}
 
 -- ---- the table
@@ -33,7 +33,7 @@ use Rattle.hinges.specs.Hinges.{FaceLists, built_faces, plus, first, closed, hin
 -- a reading of all hinges has one entry for each triangle
 pub length-hinges : {S : Type 0} (F : FaceLists) (ls : List Float) (g : Hinge → S) → length (map g (hinges F ls)) ≡ length F.triangles
 unfolding hinges
-length-hinges F ls g = length-map (hinges F ls) g ∙ length-map (upto (length F.triangles)) (λ t. closed (get_or (first_kinds F ls) t NoKind) (get_or (sums F ls) t nan)) ∙ length-upto (length F.triangles)
+length-hinges F ls g = length-map (hinges F ls) g ∙ length-map (upto (length F.triangles)) (λ t. closed (get_or (first_kinds F ls) t None) (get_or (sums F ls) t nan)) ∙ length-upto (length F.triangles)
 
 -- ---- the local indices of a pentachoron
 
@@ -123,27 +123,27 @@ module _ (F : FaceLists) (ls : List Float) (ok : Simplices F.pents F.triangles) 
 
   -- what the pass leaves at triangle t
   closed_at : (t : ℕ) → t < length F.triangles
-      → closed (get_or (first_kinds F ls) t NoKind) (get_or (sums F ls) t nan) ≡ hinge (map (dihedral_in F ls (get_or F.triangles t [])) (holding F.pents (get_or F.triangles t [])))
+      → closed (get_or (first_kinds F ls) t None) (get_or (sums F ls) t nan) ≡ hinge (map (dihedral_in F ls (get_or F.triangles t [])) (holding F.pents (get_or F.triangles t [])))
   unfolding first_kinds sums hinge
   closed_at t h =
       rw (
-        scatter-at NoKind first (pass_dihedrals F ls) (replicate (length F.triangles) NoKind) t (rw length-replicate h),
+        scatter-at None first (pass_dihedrals F ls) (replicate (length F.triangles) None) t (rw length-replicate h),
         scatter-at nan plus (pass_dihedrals F ls) (replicate (length F.triangles) Ops.zero) t (rw length-replicate h),
         hits-all t h,
-        get_or-replicate {A = KindByte} (length F.triangles) t NoKind NoKind h,
+        get_or-replicate {A = (Option HingeType)} (length F.triangles) t None None h,
         get_or-replicate (length F.triangles) t Ops.zero nan h,
       )
 
   -- the hinge of triangle t in the pass's table is that of its pentachorons' dihedrals
   pub hinge-in : (t : ℕ) → t < length F.triangles → hinge_in (hinges F ls) t ≡ hinge (map (dihedral_in F ls (get_or F.triangles t [])) (holding F.pents (get_or F.triangles t [])))
   unfolding hinges
-  hinge-in t h = get_or-table (λ t. closed (get_or (first_kinds F ls) t NoKind) (get_or (sums F ls) t nan)) (length F.triangles) t _ h ∙ closed_at t h
+  hinge-in t h = get_or-table (λ t. closed (get_or (first_kinds F ls) t None) (get_or (sums F ls) t nan)) (length F.triangles) t _ h ∙ closed_at t h
 
   -- the pass's table is the one that works each triangle out by itself
   pub one-pass : (tp : List (List ℕ)) → ((t : ℕ) → t < length F.triangles → get_or tp t [] ≡ holding F.pents (get_or F.triangles t [])) → hinges F ls ≡ map (hinge_at F tp ls) (upto (length F.triangles))
   unfolding hinges hinge_at
   one-pass tp own =
-      map_same (λ t. closed (get_or (first_kinds F ls) t NoKind) (get_or (sums F ls) t nan)) (hinge_at F tp ls) (upto (length F.triangles))
+      map_same (λ t. closed (get_or (first_kinds F ls) t None) (get_or (sums F ls) t nan)) (hinge_at F tp ls) (upto (length F.triangles))
       (λ t m.
       let h : t < length F.triangles = mem-upto (length F.triangles) t m in
       closed_at t h ∙ ap (λ (is : List ℕ). hinge (map (dihedral_in F ls (get_or F.triangles t [])) is)) (sym (own t h)))

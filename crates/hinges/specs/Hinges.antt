@@ -1,6 +1,6 @@
 -- The hinges of a complex: a deficit and a kind for each triangle, in one pass over the pentachorons as the Rust has it, and each triangle by itself. Definitions only.
 -- Pentachorons, edges and triangles are rising lists of vertices; `ls` has a signed squared length for each edge.
-use Rattle.std.specs.Prelude.{ℕ, zero, suc, ◌+◌, not, length, get_or, replicate, Float}
+use Rattle.std.specs.Prelude.{ℕ, zero, suc, ◌+◌, not, length, get_or, replicate, Float, Option, Some, None}
 use mathlib.Core.List.{List, [], map, foldl}
 use Rattle.std.specs.Float.{nan}
 use Rattle.std.specs.Float.Ieee.{neg}
@@ -11,6 +11,7 @@ use Rattle.lists.specs.Lists.{keep, gather, upto, combos, among}
 use Rattle.lists.specs.Keys.{find}
 use Rattle.lists.specs.Loops.{scatter}
 use Rattle.complex.specs.declared.Counts.{Counts}
+use Rattle.complex.specs.declared.Complex.{Complex}
 use Rattle.complex.specs.Complex.{edges, triangles, row_numbers}
 use Rattle.complex.specs.Check.{pents_in, edges_in, triangles_in}
 use Rattle.incidence.specs.Incidence.{opposite_indices}
@@ -21,8 +22,6 @@ use Rattle.lorentzian.specs.declared.dihedral.HingeType.TheVariants.{Spacelike, 
 use Rattle.lorentzian.specs.declared.dihedral.Dihedral.{Dihedral}
 use Rattle.lorentzian.specs.Dihedral.{kind_number, kind_of, value_of, compute_dihedral}
 use Rattle.hinges.specs.declared.hinge.Hinge.{Hinge}
-use Rattle.hinges.specs.declared.hinge.KindByte.{KindByte}
-use Rattle.hinges.specs.declared.hinge.KindByte.TheVariants.{Kind, NoKind}
 
 -- ---- the lists that hinges are read from
 
@@ -40,23 +39,27 @@ built_faces ps = record { pents = ps; edges = edges ps; triangles = triangles ps
 abbrev pub faces_in : Counts → List ℕ → List ℕ → List ℕ → FaceLists
 faces_in c ps es ts = record { pents = pents_in c ps; edges = edges_in c es; triangles = triangles_in c ts }
 
+-- those of a lent complex
+abbrev pub faces_of : Complex → FaceLists
+faces_of x = faces_in x.counts x.pents.now x.edges.now x.triangles.now
+
 -- ---- kinds as bytes
 
--- the byte of a kind, and 2 where there is none yet
-abbrev pub byte_of : KindByte → ℕ
-byte_of (Kind k) = kind_number k
-byte_of NoKind = 2
+-- the byte of a kind: 0 Spacelike, 1 Timelike, and 2 where there is none yet
+abbrev pub byte_of : Option HingeType → ℕ
+byte_of (Some k) = kind_number k
+byte_of None = 2
 
 -- the kind of a byte: 0 is Spacelike, 1 Timelike, any other is no kind
-abbrev pub kind_in : ℕ → KindByte
-kind_in zero = Kind Spacelike
-kind_in (suc zero) = Kind Timelike
-kind_in (suc (suc n)) = NoKind
+abbrev pub kind_in : ℕ → Option HingeType
+kind_in zero = Some Spacelike
+kind_in (suc zero) = Some Timelike
+kind_in (suc (suc n)) = None
 
 -- the kind, or another where there is none
-abbrev pub known_or : KindByte → HingeType → HingeType
-known_or (Kind k) other = k
-known_or NoKind other = other
+abbrev pub known_or : Option HingeType → HingeType → HingeType
+known_or (Some k) other = k
+known_or None other = other
 
 -- ---- a hinge
 
@@ -78,17 +81,17 @@ unfoldable pub plus : Float → Dihedral → Float
 plus sum d = sum ⊕ value_of d
 
 -- the kind of a hinge is that of its first dihedral
-unfoldable pub first : KindByte → Dihedral → KindByte
-first (Kind k) d = Kind k
-first NoKind d = Kind (kind_of d)
+unfoldable pub first : Option HingeType → Dihedral → Option HingeType
+first (Some k) d = Some k
+first None d = Some (kind_of d)
 
 -- the hinge of a first kind and a sum; Spacelike where there was no dihedral
-unfoldable pub closed : KindByte → Float → Hinge
+unfoldable pub closed : Option HingeType → Float → Hinge
 closed k sum = hinge_of (known_or k Spacelike) sum
 
 -- the hinge that has these dihedrals, in this order
 unfoldable pub hinge : List Dihedral → Hinge
-hinge ds = closed (foldl first NoKind ds) (foldl plus Ops.zero ds)
+hinge ds = closed (foldl first None ds) (foldl plus Ops.zero ds)
 
 -- ---- the dihedrals of a pentachoron
 
@@ -133,12 +136,12 @@ unfoldable pub sums : FaceLists → List Float → List Float
 sums F ls = scatter nan plus (pass_dihedrals F ls) (replicate (length F.triangles) Ops.zero)
 
 -- the first kind of each triangle
-unfoldable pub first_kinds : FaceLists → List Float → List KindByte
-first_kinds F ls = scatter NoKind first (pass_dihedrals F ls) (replicate (length F.triangles) NoKind)
+unfoldable pub first_kinds : FaceLists → List Float → List (Option HingeType)
+first_kinds F ls = scatter None first (pass_dihedrals F ls) (replicate (length F.triangles) None)
 
 -- `lorentzian_deficit_angles`: the hinge of each triangle
 unfoldable pub hinges : FaceLists → List Float → List Hinge
-hinges F ls = map (λ t. closed (get_or (first_kinds F ls) t NoKind) (get_or (sums F ls) t nan)) (upto (length F.triangles))
+hinges F ls = map (λ t. closed (get_or (first_kinds F ls) t None) (get_or (sums F ls) t nan)) (upto (length F.triangles))
 
 -- the hinge of triangle t in a table
 abbrev pub hinge_in : List Hinge → ℕ → Hinge

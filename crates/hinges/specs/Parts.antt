@@ -3,6 +3,8 @@ use Rattle.std.specs.Prelude.{ℕ, ◌≤◌, ◌≡◌, true}
 use mathlib.Core.List.{List, Memᴰ}
 use Rattle.lists.specs.Lists.{combos}
 use Rattle.complex.specs.declared.Counts.{Counts}
+use Rattle.complex.specs.declared.Complex.{Complex}
+use Rattle.complex.specs.declared.Incidence.{Incidence}
 use Rattle.complex.specs.Check.{pents_in, edges_in, triangles_in, holds}
 use Rattle.incidence.specs.Incidence.{Tens, Simplices, Lie}
 
@@ -27,3 +29,13 @@ pub record Measured (c : Counts) (pents edges triangles items ss pe pt : List �
   pub lie : Lie (pents_in c pents) (triangles_in c triangles)
   pub holders : holds (pents_in c pents) (triangles_in c triangles) items ss ≡ true
   pub edges_found : Found (edges_in c edges) 2 (triangles_in c triangles)
+
+-- ---- of a lent complex
+
+-- the same of a lent complex and the numbers of its pentachorons' edges and triangles
+abbrev pub IsPassable : Complex → Incidence → ℕ → Type 0
+IsPassable x i n = Passable x.counts x.pents.now x.edges.now x.triangles.now i.pent_edges.now i.pent_tris.now n
+
+abbrev pub IsMeasured : Complex → Incidence → ℕ → Type 0
+IsMeasured x i n =
+    Measured x.counts x.pents.now x.edges.now x.triangles.now x.tri_to_pents.items.now x.tri_to_pents.starts.now i.pent_edges.now i.pent_tris.now n

@@ -13,6 +13,6 @@ mod zeros;
 pub use area::{abs_area, tri_sq_lengths};
 pub use contributions::{add_contributions, factor_of};
 pub use dihedrals::pent_sq_lengths;
-pub use hinge::{Hinge, KindByte, closed, kind_in};
+pub use hinge::{Hinge, byte_of, closed, first, kind_in};
 pub use triangle::hinge_at;
 pub use zeros::zero_all;

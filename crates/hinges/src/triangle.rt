@@ -1,13 +1,13 @@
 // The hinge of one triangle, from the pentachorons in which it lies.
 ghost use Rattle.std.specs.Prelude.{◌≡◌, true, [], ◌<◌, length, get_or};
 ghost use Rattle.lists.specs.Lists.{within};
-ghost use Rattle.complex.specs.Check.{pents_in, triangles_in};
-ghost use Rattle.hinges.specs.Hinges.{faces_in, hinges, hinge_in, dihedral_in};
-ghost use Rattle.hinges.specs.Parts.{Measured};
+ghost use Rattle.complex.specs.Lent.{pents_of, triangles_of};
+ghost use Rattle.hinges.specs.Hinges.{faces_of, hinges, hinge_in, dihedral_in};
+ghost use Rattle.hinges.specs.Parts.{IsMeasured};
 
 use crate::dihedrals::{dihedral_at, pent_sq_lengths};
-use crate::hinge::{Hinge, KindByte, closed};
-use complex::Counts;
+use crate::hinge::{Hinge, closed, first};
+use complex::{Complex, Incidence};
 use incidence::{
     PentachoronNumber, TriangleNumber, opposite_local_indices, pent_edge_indices, pents_of_triangle,
 };
@@ -15,75 +15,53 @@ use lorentzian::Dihedral;
 
 // The dihedral of a triangle in a pentachoron in which it lies.
 fn dihedral_in<'a>(
-    counts: Counts,
-    pents: &'a [u32],
-    edges: &'a [u32],
-    triangles: &'a [u32],
-    tri_to_pents_items: &'a [u32],
-    tri_to_pents_starts: &'a [u32],
-    pent_edges: &'a [u32],
-    pent_tris: &'a [u32],
+    complex: &Complex<'a>,
+    incidence: &Incidence<'a>,
     sq_lengths: &'a [f64],
     pent: PentachoronNumber,
     tri: TriangleNumber,
 ) -> Dihedral
-    requires { Measured counts pents.now edges.now triangles.now tri_to_pents_items.now tri_to_pents_starts.now pent_edges.now pent_tris.now (length sq_lengths.now)
-        × (pent.0 < counts.pentachorons) × (tri.0 < counts.triangles)
-        × (within (get_or (triangles_in counts triangles.now) tri.0 []) (get_or (pents_in counts pents.now) pent.0 []) ≡ true) }
-    ensures { result ≡ dihedral_in (faces_in counts pents.now edges.now triangles.now) sq_lengths.now (get_or (triangles_in counts triangles.now) tri.0 []) pent.0 }
+    requires { IsMeasured complex.now incidence.now (length sq_lengths.now)
+        × (pent.0 < complex.now.counts.pentachorons) × (tri.0 < complex.now.counts.triangles)
+        × (within (get_or (triangles_of complex.now) tri.0 []) (get_or (pents_of complex.now) pent.0 []) ≡ true) }
+    ensures { result ≡ dihedral_in (faces_of complex.now) sq_lengths.now (get_or (triangles_of complex.now) tri.0 []) pent.0 }
 {
-    let own = pent_edge_indices(counts, pents, edges, pent_edges, pent);
+    let own = pent_edge_indices(complex, incidence, pent);
     let s = pent_sq_lengths(own, sq_lengths);
     dihedral_at(
         &s,
-        opposite_local_indices(counts, pents, triangles, pent_tris, pent, tri),
+        opposite_local_indices(complex, incidence, pent, tri),
     )
 }
 
 // The hinge of a triangle, from all pentachorons in which it lies.
 pub fn hinge_at<'a>(
-    counts: Counts,
-    pents: &'a [u32],
-    edges: &'a [u32],
-    triangles: &'a [u32],
-    tri_to_pents_items: &'a [u32],
-    tri_to_pents_starts: &'a [u32],
-    pent_edges: &'a [u32],
-    pent_tris: &'a [u32],
+    complex: &Complex<'a>,
+    incidence: &Incidence<'a>,
     sq_lengths: &'a [f64],
     tri: TriangleNumber,
 ) -> Hinge
-    requires { Measured counts pents.now edges.now triangles.now tri_to_pents_items.now tri_to_pents_starts.now pent_edges.now pent_tris.now (length sq_lengths.now)
-        × (tri.0 < counts.triangles) }
-    ensures { result ≡ hinge_in (hinges (faces_in counts pents.now edges.now triangles.now) sq_lengths.now) tri.0 }
+    requires { IsMeasured complex.now incidence.now (length sq_lengths.now)
+        × (tri.0 < complex.now.counts.triangles) }
+    ensures { result ≡ hinge_in (hinges (faces_of complex.now) sq_lengths.now) tri.0 }
 {
     let holders = pents_of_triangle(
-        counts,
-        pents,
-        triangles,
-        tri_to_pents_items,
-        tri_to_pents_starts,
+        complex,
         tri,
     );
     let mut sum = 0.0;
-    let mut kind = KindByte::NoKind;
+    let mut kind = None;
     let mut k = 0;
     while k < holders.len() {
         let dihedral = dihedral_in(
-            counts,
-            pents,
-            edges,
-            triangles,
-            tri_to_pents_items,
-            tri_to_pents_starts,
-            pent_edges,
-            pent_tris,
+            complex,
+            incidence,
             sq_lengths,
             PentachoronNumber(holders[k]),
             tri,
         );
         sum += dihedral.value();
-        kind = kind.or_kind_of(dihedral);
+        kind = first(kind, dihedral);
         k += 1;
     }
     closed(kind, sum)

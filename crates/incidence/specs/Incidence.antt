@@ -6,7 +6,10 @@ use Rattle.lists.specs.Keys.{Distinct}
 use Rattle.lists.specs.Rows.{rows, begins}
 use Rattle.incidence.specs.declared.TriangleEdges.{TriangleEdges}
 use Rattle.incidence.specs.declared.Opposite.{Opposite}
+use Rattle.complex.specs.declared.Complex.{Complex}
+use Rattle.complex.specs.declared.Incidence.{Incidence}
 use Rattle.complex.specs.Complex.{row_numbers}
+use Rattle.complex.specs.Lent.{edges_of, triangles_of}
 
 -- ---- what is asked
 
@@ -14,6 +17,14 @@ use Rattle.complex.specs.Complex.{row_numbers}
 pub record Tens (keys : List (List ℕ)) (k P : ℕ) (pents numbers : List ℕ) : Type 0 where
   pub room : 5 * P ≤ length pents
   pub noted : begins (gather (row_numbers keys k) (rows 5 P pents)) numbers ≡ true
+
+-- the numbers of a complex's pentachorons' edges are noted
+abbrev pub HasEdgeNumbers : Complex → Incidence → Type 0
+HasEdgeNumbers x i = Tens (edges_of x) 2 x.counts.pentachorons x.pents.now i.pent_edges.now
+
+-- the numbers of their triangles are
+abbrev pub HasTriangleNumbers : Complex → Incidence → Type 0
+HasTriangleNumbers x i = Tens (triangles_of x) 3 x.counts.pentachorons x.pents.now i.pent_tris.now
 
 -- pentachorons and triangles are rising lists, a triangle of three vertices, and no triangle stands twice
 pub record Simplices (ps ts : List (List ℕ)) : Type 0 where

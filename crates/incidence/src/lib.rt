@@ -4,11 +4,11 @@
 ghost use Rattle.std.specs.Prelude.{◌≡◌, true, [], ◌∷◌, ◌+◌, ◌*◌, ◌-◌, ◌≤◌, ◌<◌, length, get_or, take, drop};
 ghost use Rattle.lists.specs.Lists.{among, within};
 ghost use Rattle.complex.specs.Complex.{holding, row_numbers};
-ghost use Rattle.complex.specs.Check.{pents_in, edges_in, triangles_in, holds};
+ghost use Rattle.complex.specs.Lent.{pents_of, edges_of, triangles_of, IsHolding};
 ghost use Rattle.complex.specs.Parts.{edge_at};
-ghost use Rattle.incidence.specs.Incidence.{Tens, Simplices, Lie, edge_list, index_list, opposite_indices};
+ghost use Rattle.incidence.specs.Incidence.{HasEdgeNumbers, HasTriangleNumbers, Simplices, Lie, edge_list, index_list, opposite_indices};
 
-use complex::{Counts, edge_at};
+use complex::{Complex, Incidence, edge_at};
 
 // The number of an edge.
 #[derive(Clone, Copy)]
@@ -61,50 +61,38 @@ fn part<'a>(items: &'a [u32], starts: &'a [u32], i: usize) -> &'a [u32]
 
 // The numbers of the pentachorons in which a triangle lies, ascending.
 pub fn pents_of_triangle<'a>(
-    counts: Counts,
-    pents: &'a [u32],
-    triangles: &'a [u32],
-    tri_to_pents_items: &'a [u32],
-    tri_to_pents_starts: &'a [u32],
+    complex: &Complex<'a>,
     tri: TriangleNumber,
 ) -> &'a [u32]
-    requires { (holds (pents_in counts pents.now) (triangles_in counts triangles.now) tri_to_pents_items.now tri_to_pents_starts.now ≡ true) × (tri.0 < counts.triangles) }
-    ensures { result.now ≡ holding (pents_in counts pents.now) (get_or (triangles_in counts triangles.now) tri.0 []) }
+    requires { (IsHolding (pents_of complex.now) (triangles_of complex.now) complex.now.tri_to_pents) × (tri.0 < complex.now.counts.triangles) }
+    ensures { result.now ≡ holding (pents_of complex.now) (get_or (triangles_of complex.now) tri.0 []) }
 {
     let t = tri.0;
-    part(tri_to_pents_items, tri_to_pents_starts, t as usize)
+    part(complex.tri_to_pents.items, complex.tri_to_pents.starts, t as usize)
 }
 
 // The numbers of the triangles in which an edge lies, ascending.
 pub fn tris_of_edge<'a>(
-    counts: Counts,
-    edges: &'a [u32],
-    triangles: &'a [u32],
-    edge_to_tris_items: &'a [u32],
-    edge_to_tris_starts: &'a [u32],
+    complex: &Complex<'a>,
     edge: EdgeNumber,
 ) -> &'a [u32]
-    requires { (holds (triangles_in counts triangles.now) (edges_in counts edges.now) edge_to_tris_items.now edge_to_tris_starts.now ≡ true) × (edge.0 < counts.edges) }
-    ensures { result.now ≡ holding (triangles_in counts triangles.now) (get_or (edges_in counts edges.now) edge.0 []) }
+    requires { (IsHolding (triangles_of complex.now) (edges_of complex.now) complex.now.edge_to_tris) × (edge.0 < complex.now.counts.edges) }
+    ensures { result.now ≡ holding (triangles_of complex.now) (get_or (edges_of complex.now) edge.0 []) }
 {
     let e = edge.0;
-    part(edge_to_tris_items, edge_to_tris_starts, e as usize)
+    part(complex.edge_to_tris.items, complex.edge_to_tris.starts, e as usize)
 }
 
 // The numbers of the pentachorons in which an edge lies, ascending.
 pub fn pents_of_edge<'a>(
-    counts: Counts,
-    pents: &'a [u32],
-    edges: &'a [u32],
-    edge_to_pents_items: &'a [u32],
-    edge_to_pents_starts: &'a [u32],
+    complex: &Complex<'a>,
     edge: EdgeNumber,
 ) -> &'a [u32]
-    requires { (holds (pents_in counts pents.now) (edges_in counts edges.now) edge_to_pents_items.now edge_to_pents_starts.now ≡ true) × (edge.0 < counts.edges) }
-    ensures { result.now ≡ holding (pents_in counts pents.now) (get_or (edges_in counts edges.now) edge.0 []) }
+    requires { (IsHolding (pents_of complex.now) (edges_of complex.now) complex.now.edge_to_pents) × (edge.0 < complex.now.counts.edges) }
+    ensures { result.now ≡ holding (pents_of complex.now) (get_or (edges_of complex.now) edge.0 []) }
 {
     let e = edge.0;
-    part(edge_to_pents_items, edge_to_pents_starts, e as usize)
+    part(complex.edge_to_pents.items, complex.edge_to_pents.starts, e as usize)
 }
 
 // ---- the faces of a pentachoron
@@ -121,32 +109,28 @@ fn ten<'a>(numbers: &'a [u32], i: usize) -> &'a [u32]
 
 // The numbers of the ten edges of a pentachoron with the vertices 0 to 4: 01, 02, 03, 04, 12, 13, 14, 23, 24, 34.
 pub fn pent_edge_indices<'a>(
-    counts: Counts,
-    pents: &'a [u32],
-    edges: &'a [u32],
-    pent_edges: &'a [u32],
+    complex: &Complex<'a>,
+    incidence: &Incidence<'a>,
     pent: PentachoronNumber,
 ) -> &'a [u32]
-    requires { Tens (edges_in counts edges.now) 2 counts.pentachorons pents.now pent_edges.now × (pent.0 < counts.pentachorons) }
-    ensures { result.now ≡ row_numbers (edges_in counts edges.now) 2 (get_or (pents_in counts pents.now) pent.0 []) }
+    requires { HasEdgeNumbers complex.now incidence.now × (pent.0 < complex.now.counts.pentachorons) }
+    ensures { result.now ≡ row_numbers (edges_of complex.now) 2 (get_or (pents_of complex.now) pent.0 []) }
 {
     let p = pent.0;
-    ten(pent_edges, p as usize)
+    ten(incidence.pent_edges, p as usize)
 }
 
 // The numbers of the ten triangles of a pentachoron: 012, 013, 014, 023, 024, 034, 123, 124, 134, 234.
 pub fn pent_tri_indices<'a>(
-    counts: Counts,
-    pents: &'a [u32],
-    triangles: &'a [u32],
-    pent_tris: &'a [u32],
+    complex: &Complex<'a>,
+    incidence: &Incidence<'a>,
     pent: PentachoronNumber,
 ) -> &'a [u32]
-    requires { Tens (triangles_in counts triangles.now) 3 counts.pentachorons pents.now pent_tris.now × (pent.0 < counts.pentachorons) }
-    ensures { result.now ≡ row_numbers (triangles_in counts triangles.now) 3 (get_or (pents_in counts pents.now) pent.0 []) }
+    requires { HasTriangleNumbers complex.now incidence.now × (pent.0 < complex.now.counts.pentachorons) }
+    ensures { result.now ≡ row_numbers (triangles_of complex.now) 3 (get_or (pents_of complex.now) pent.0 []) }
 {
     let p = pent.0;
-    ten(pent_tris, p as usize)
+    ten(incidence.pent_tris, p as usize)
 }
 
 // ---- a triangle in a pentachoron
@@ -177,57 +161,45 @@ fn edges_at(ten: &[u32], q: usize) -> TriangleEdges
 
 // The numbers of the three edges of a triangle, read from the first pentachoron in which it lies.
 pub fn tri_edge_indices<'a>(
-    counts: Counts,
-    pents: &'a [u32],
-    edges: &'a [u32],
-    triangles: &'a [u32],
-    tri_to_pents_items: &'a [u32],
-    tri_to_pents_starts: &'a [u32],
-    pent_edges: &'a [u32],
-    pent_tris: &'a [u32],
+    complex: &Complex<'a>,
+    incidence: &Incidence<'a>,
     tri: TriangleNumber,
 ) -> TriangleEdges
-    requires { Simplices (pents_in counts pents.now) (triangles_in counts triangles.now)
-        × Lie (pents_in counts pents.now) (triangles_in counts triangles.now)
-        × (holds (pents_in counts pents.now) (triangles_in counts triangles.now) tri_to_pents_items.now tri_to_pents_starts.now ≡ true)
-        × Tens (edges_in counts edges.now) 2 counts.pentachorons pents.now pent_edges.now
-        × Tens (triangles_in counts triangles.now) 3 counts.pentachorons pents.now pent_tris.now
-        × (tri.0 < counts.triangles) }
-    ensures { edge_list result ≡ row_numbers (edges_in counts edges.now) 2 (get_or (triangles_in counts triangles.now) tri.0 []) }
+    requires { Simplices (pents_of complex.now) (triangles_of complex.now)
+        × Lie (pents_of complex.now) (triangles_of complex.now)
+        × (IsHolding (pents_of complex.now) (triangles_of complex.now) complex.now.tri_to_pents)
+        × HasEdgeNumbers complex.now incidence.now
+        × HasTriangleNumbers complex.now incidence.now
+        × (tri.0 < complex.now.counts.triangles) }
+    ensures { edge_list result ≡ row_numbers (edges_of complex.now) 2 (get_or (triangles_of complex.now) tri.0 []) }
 {
     let t = tri.0;
     let holders = pents_of_triangle(
-        counts,
-        pents,
-        triangles,
-        tri_to_pents_items,
-        tri_to_pents_starts,
+        complex,
         tri,
     );
     let p = holders[0];
-    let tris = pent_tri_indices(counts, pents, triangles, pent_tris, PentachoronNumber(p));
-    let own = pent_edge_indices(counts, pents, edges, pent_edges, PentachoronNumber(p));
+    let tris = pent_tri_indices(complex, incidence, PentachoronNumber(p));
+    let own = pent_edge_indices(complex, incidence, PentachoronNumber(p));
     edges_at(own, local_index(tris, t))
 }
 
 // The two vertices of a pentachoron that are not in a triangle that lies in it.
 pub fn opposite_local_indices<'a>(
-    counts: Counts,
-    pents: &'a [u32],
-    triangles: &'a [u32],
-    pent_tris: &'a [u32],
+    complex: &Complex<'a>,
+    incidence: &Incidence<'a>,
     pent: PentachoronNumber,
     tri: TriangleNumber,
 ) -> Opposite
-    requires { Simplices (pents_in counts pents.now) (triangles_in counts triangles.now)
-        × Tens (triangles_in counts triangles.now) 3 counts.pentachorons pents.now pent_tris.now
-        × (pent.0 < counts.pentachorons)
-        × (tri.0 < counts.triangles)
-        × (within (get_or (triangles_in counts triangles.now) tri.0 []) (get_or (pents_in counts pents.now) pent.0 []) ≡ true) }
-    ensures { index_list result ≡ opposite_indices (get_or (pents_in counts pents.now) pent.0 []) (get_or (triangles_in counts triangles.now) tri.0 []) }
+    requires { Simplices (pents_of complex.now) (triangles_of complex.now)
+        × HasTriangleNumbers complex.now incidence.now
+        × (pent.0 < complex.now.counts.pentachorons)
+        × (tri.0 < complex.now.counts.triangles)
+        × (within (get_or (triangles_of complex.now) tri.0 []) (get_or (pents_of complex.now) pent.0 []) ≡ true) }
+    ensures { index_list result ≡ opposite_indices (get_or (pents_of complex.now) pent.0 []) (get_or (triangles_of complex.now) tri.0 []) }
 {
     let t = tri.0;
-    let tris = pent_tri_indices(counts, pents, triangles, pent_tris, pent);
+    let tris = pent_tri_indices(complex, incidence, pent);
     let q = local_index(tris, t);
     Opposite {
         l: OPPOSITE[q][0],

@@ -1,4 +1,6 @@
 -- The list of a lattice's pentachorons: what they are like, that the builder takes them as they are, and that the functions over a lattice's complex take what it leaves. Assumes nothing.
+use Rattle.refusals.specs.Refusals.{Done}
+use Rattle.std.specs.Prelude.{Err, Ok}
 use Prim.Native.Nat.{ℕ, ◌/◌, ◌%◌, ◌≤◌}
 use mathlib.Core.Path.{◌≡◌, refl, ap, ◌∙◌}
 use mathlib.Core.Bool.{true, cond}
@@ -10,7 +12,6 @@ use lib.Dec.{ltb}
 use lib.ListN.{length}
 use borrow.Author.Tests.{eq-eqb, ne_eqb, le-ltb}
 use Rattle.refusals.specs.declared.Refusal.TheVariants.{ShortRoom}
-use Rattle.refusals.specs.declared.Outcome.TheVariants.{Done, Refused}
 use Rattle.lists.specs.Lists.{Once}
 use Rattle.lists.specs.Keys.{Distinct}
 use Rattle.lists.specs.Rows.{flat}
@@ -96,7 +97,7 @@ module _ (l : Lattice) (ok : Lawful l) where
   vertices-some = mul-le-mul ok.t_least (mul-le-mul ok.s_least (mul-le-mul ok.s_least ok.s_least))
 
   -- the builder refuses the list for want of room alone
-  pub builder_accepts : (r : Rooms) → check_of (vertex_count l) (flat (lattice_pents l)) r ≡ cond (is_short (length (lattice_pents l)) r) (Refused ShortRoom) Done
+  pub builder_accepts : (r : Rooms) → check_of (vertex_count l) (flat (lattice_pents l)) r ≡ cond (is_short (length (lattice_pents l)) r) (Err ShortRoom) Done
   unfolding check_of
   builder_accepts r =
       let given = flat (lattice_pents l) in
@@ -111,7 +112,7 @@ module _ (l : Lattice) (ok : Lawful l) where
 
   -- ---- the builder's complex
 
-  module _ (before after : Lists) (c : Counts) (b : Builds (vertex_count l) (flat (lattice_pents l)) before (Built.Done c) after) where
+  module _ (before after : Lists) (c : Counts) (b : Builds (vertex_count l) (flat (lattice_pents l)) before (Ok c) after) where
     -- counts and lists are those of the lattice's pentachorons
     built : (c ≡ counts_of (vertex_count l) (lattice_pents l)) × (after ≡ over_all (written (lattice_pents l)) before)
     built = let d = builder-left (vertex_count l) (flat (lattice_pents l)) before after c b in (rw sorted-same at d.1, rw sorted-same at d.2)
@@ -124,6 +125,6 @@ module _ (l : Lattice) (ok : Lawful l) where
         rw (eq-eqb _ _ v, eq-eqb _ _ n, begins-over (flat (lattice_pents l)) before.pents after.pents (ap (λ (d : Lists). d.pents) built.1)) refl
 
     -- edge types and flat lengths are refused for it only where the lent list is shorter than the number of edges
-    pub lattice-answers : (room : ℕ) → lattice_check_of l c after room ≡ cond (ltb room c.edges) (Refused ShortRoom) Done
+    pub lattice-answers : (room : ℕ) → lattice_check_of l c after room ≡ cond (ltb room c.edges) (Err ShortRoom) Done
     unfolding lattice_check_of
     lattice-answers room = rw (passes (lawful-says l) ok, has, builder-built (vertex_count l) (flat (lattice_pents l)) before after c b) refl

@@ -1,4 +1,5 @@
 -- What a call over a lattice's complex is like where its checks let it pass. Assumes nothing.
+use Rattle.refusals.specs.Refusals.{Done}
 use Prim.Native.Nat.{ℕ, ◌*◌, ◌≤◌}
 use mathlib.Core.Path.{◌≡◌}
 use mathlib.Core.Bool.{true, not, ◌&&◌}
@@ -6,7 +7,6 @@ use lib.Dec.{ltb}
 use lib.ListN.{length}
 use borrow.Author.Tests.{ltb-false, not-false}
 use Rattle.refusals.specs.declared.Refusal.TheVariants.{ShortRoom, LatticeSize, NotBuilt}
-use Rattle.refusals.specs.declared.Outcome.TheVariants.{Done}
 use Rattle.lists.proofs.Tests.{and-true, said}
 use Rattle.complex.specs.declared.Counts.{Counts}
 use Rattle.complex.specs.Builder.{Lists}

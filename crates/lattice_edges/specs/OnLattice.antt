@@ -1,8 +1,7 @@
 -- Calls over the complex of a lattice, with a lent list that has a place for each edge: when they are refused, and what they leave. Definitions only.
-use Rattle.std.specs.Prelude.{ℕ, ◌≡◌, Bool, not, cond, ◌&&◌, List, eqb, ltb, length}
+use Rattle.refusals.specs.Refusals.{Done, Outcome}
+use Rattle.std.specs.Prelude.{ℕ, ◌≡◌, Bool, not, cond, ◌&&◌, List, eqb, ltb, length, Err}
 use Rattle.refusals.specs.declared.Refusal.TheVariants.{ShortRoom, LatticeSize, NotBuilt}
-use Rattle.refusals.specs.declared.Outcome.{Outcome}
-use Rattle.refusals.specs.declared.Outcome.TheVariants.{Done, Refused}
 use Rattle.lists.specs.Rows.{flat, begins}
 use Rattle.complex.specs.declared.Counts.{Counts}
 use Rattle.complex.specs.Builder.{Lists}
@@ -17,8 +16,8 @@ has_lattice_pents l c pents = eqb c.vertices (vertex_count l) && eqb c.pentachor
 -- 6 for a size that is not lawful, 7 for a complex that is not built or not that lattice's, then 5 for a list shorter than the number of edges
 unfoldable pub lattice_check_of : Lattice → Counts → Lists → ℕ → Outcome
 lattice_check_of l c ls room =
-    cond (not (is_lawful l)) (Refused LatticeSize)
-    (cond (not (has_lattice_pents l c ls.pents && is_built c ls)) (Refused NotBuilt) (cond (ltb room c.edges) (Refused ShortRoom) Done))
+    cond (not (is_lawful l)) (Err LatticeSize)
+    (cond (not (has_lattice_pents l c ls.pents && is_built c ls)) (Err NotBuilt) (cond (ltb room c.edges) (Err ShortRoom) Done))
 
 -- a call: its answer, and the lent list after it, which has the values of the edges where the call is not refused
 pub record Filled {A : Type 0} (l : Lattice) (c : Counts) (ls : Lists) (values old : List A) (r : Outcome) (new : List A) : Type 0 where

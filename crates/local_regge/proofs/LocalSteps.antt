@@ -1,4 +1,6 @@
 -- The steps of calls with free edges: checks that let a call pass, marks of what lies on free edges. Assumes nothing.
+use Rattle.refusals.specs.Refusals.{Done, Outcome}
+use Rattle.std.specs.Prelude.{Err, Ok, Result}
 use Prim.Native.Nat.{ℕ, ◌≤◌, ◌<◌}
 use mathlib.Core.Bool.{Bool, true, false, not, cond}
 use mathlib.Core.List.{List, map}
@@ -9,8 +11,6 @@ use lib.Ieee.{Float, nan}
 use lib.ListN.{length, get_or, replicate, length-map}
 use Rattle.refusals.specs.declared.Refusal.{Refusal}
 use Rattle.refusals.specs.declared.Refusal.TheVariants.{LengthCount, EdgeTooLarge, RepeatedEdge}
-use Rattle.refusals.specs.declared.Outcome.{Outcome}
-use Rattle.refusals.specs.declared.Outcome.TheVariants.{Done, Refused}
 use Rattle.floats.specs.Ops.{◌⊕◌, zero}
 use Rattle.lists.specs.Lists.{gather, Once}
 use Rattle.lists.specs.Rows.{over}
@@ -33,7 +33,6 @@ use Rattle.hinges.specs.Local.{local_triangles, local_hinges, local_gradient}
 use Rattle.hinges.specs.Parts.{Measured}
 use Rattle.hinges.proofs.OnePass.{length-hinges}
 use Rattle.hinges.proofs.LocalEntries.{entries_local}
-use Rattle.calls.specs.declared.LocalAnswer.{LocalAnswer}
 use Rattle.calls.specs.Calls.{BuiltWith, lengths_check_of, free_check_of}
 use Rattle.calls.proofs.BuiltCalls.{not-large-below, built-measured, most-edges, lengths-passed, done-not-refused}
 use Rattle.local_regge.specs.LocalCalls.{LocallyTabled}
@@ -90,18 +89,18 @@ module _ (c : Counts) (n : ℕ) (free : List ℕ) (others : Outcome) where
   unfolding lengths_check_of free_check_of
   local-others h = go (not (eqb n c.edges)) (too_large c.edges free) (repeats free) h
     where
-      go : (x y z : Bool) → cond x (Refused LengthCount) (cond y (Refused EdgeTooLarge) (cond z (Refused RepeatedEdge) Done)) ≡ Done → cond x (Refused LengthCount) (cond y (Refused EdgeTooLarge) (cond z (Refused RepeatedEdge) others)) ≡ others
+      go : (x y z : Bool) → cond x (Err LengthCount) (cond y (Err EdgeTooLarge) (cond z (Err RepeatedEdge) Done)) ≡ Done → cond x (Err LengthCount) (cond y (Err EdgeTooLarge) (cond z (Err RepeatedEdge) others)) ≡ others
       go true y z e = absurd (done-not-refused (sym e))
       go false true z e = absurd (done-not-refused (sym e))
       go false false true e = absurd (done-not-refused (sym e))
       go false false false e = refl
 
   -- where they refuse they do so whatever the others say
-  pub local-refused : {r : Refusal} → lengths_check_of c n (free_check_of c free Done) ≡ Refused r → lengths_check_of c n (free_check_of c free others) ≡ Refused r
+  pub local-refused : {r : Refusal} → lengths_check_of c n (free_check_of c free Done) ≡ Err r → lengths_check_of c n (free_check_of c free others) ≡ Err r
   unfolding lengths_check_of free_check_of
   local-refused {r} h = go (not (eqb n c.edges)) (too_large c.edges free) (repeats free) h
     where
-      go : (x y z : Bool) → cond x (Refused LengthCount) (cond y (Refused EdgeTooLarge) (cond z (Refused RepeatedEdge) Done)) ≡ Refused r → cond x (Refused LengthCount) (cond y (Refused EdgeTooLarge) (cond z (Refused RepeatedEdge) others)) ≡ Refused r
+      go : (x y z : Bool) → cond x (Err LengthCount) (cond y (Err EdgeTooLarge) (cond z (Err RepeatedEdge) Done)) ≡ Err r → cond x (Err LengthCount) (cond y (Err EdgeTooLarge) (cond z (Err RepeatedEdge) others)) ≡ Err r
       go true y z e = e
       go false true z e = e
       go false false true e = e
@@ -121,16 +120,16 @@ marks_local c pents edges triangles free m h marks e =
 
 module _ {o : Outcome} {F : FaceLists} {ls : List Float} {free ts : List ℕ} {ds : List Float} {ks : List ℕ} where
   -- a refused call leaves the lists as they were
-  pub table-refused : {r : Refusal} → o ≡ Refused r → LocallyTabled o F ls free ts ds ks (LocalAnswer.Refused r) ts ds ks
+  pub table-refused : {r : Refusal} → o ≡ Err r → LocallyTabled o F ls free ts ds ks (Err r) ts ds ks
   table-refused e = record { answered = rw e refl; triangles = rw e refl; deficits = rw e refl; kinds = rw e refl }
 
   -- a call that was let pass has written them
   pub table_done : {n : ℕ} {ts' : List ℕ} {ds' : List Float} {ks' : List ℕ} → o ≡ Done → n ≡ length (local_triangles F free) → ts' ≡ over (local_triangles F free) ts
-      → ds' ≡ over (deficits_of (local_hinges F ls free)) ds → ks' ≡ over (kinds_of (local_hinges F ls free)) ks → LocallyTabled o F ls free ts ds ks (LocalAnswer.Done n) ts' ds' ks'
+      → ds' ≡ over (deficits_of (local_hinges F ls free)) ds → ks' ≡ over (kinds_of (local_hinges F ls free)) ks → LocallyTabled o F ls free ts ds ks (Ok n) ts' ds' ks'
   table_done e n t d k = record { answered = rw (e, n) refl; triangles = rw e t; deficits = rw e d; kinds = rw e k }
 
 -- what holds of checks holds of others that say the same
-pub table_same : {o u : Outcome} {F : FaceLists} {ls : List Float} {free ts : List ℕ} {ds : List Float} {ks : List ℕ} {r : LocalAnswer} {ts' : List ℕ} {ds' : List Float} {ks' : List ℕ}
+pub table_same : {o u : Outcome} {F : FaceLists} {ls : List Float} {free ts : List ℕ} {ds : List Float} {ks : List ℕ} {r : (Result ℕ Refusal)} {ts' : List ℕ} {ds' : List Float} {ks' : List ℕ}
     → o ≡ u → LocallyTabled o F ls free ts ds ks r ts' ds' ks' → LocallyTabled u F ls free ts ds ks r ts' ds' ks'
 table_same {F = F} {ls = ls} {free = free} {ts = ts} {ds = ds} {ks = ks} {r = r} {ts' = ts'} {ds' = ds'} {ks' = ks'} e t = subst (λ (o : Outcome). LocallyTabled o F ls free ts ds ks r ts' ds' ks') e t
 

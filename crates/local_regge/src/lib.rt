@@ -6,7 +6,6 @@ mod local_deficits;
 mod local_gradient;
 mod local_hessian;
 
-pub use calls::LocalAnswer;
 pub use local_deficits::{local_deficit_angles, local_deficit_angles_built};
 pub use local_gradient::{
     local_lorentzian_regge_action_grad, local_lorentzian_regge_action_grad_built,

@@ -6,10 +6,10 @@ mod action;
 mod deficits;
 mod gradient;
 
-pub use action::{ActionAnswer, lorentzian_regge_action, lorentzian_regge_action_built};
+pub use action::{lorentzian_regge_action, lorentzian_regge_action_built};
 pub use deficits::{
-    HingeAnswer, lorentzian_deficit_angle, lorentzian_deficit_angle_built,
+    lorentzian_deficit_angle, lorentzian_deficit_angle_built,
     lorentzian_deficit_angles, lorentzian_deficit_angles_built,
 };
 pub use gradient::{lorentzian_regge_action_grad, lorentzian_regge_action_grad_built};
-pub use hinges::{Hinge, KindByte, kind_in};
+pub use hinges::Hinge;

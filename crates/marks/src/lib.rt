@@ -5,10 +5,10 @@ ghost use Rattle.std.specs.Prelude.{◌≡◌, true, ◌≤◌, length};
 ghost use Rattle.lists.specs.Rows.{over};
 ghost use Rattle.lists.specs.Groups.{Below};
 ghost use Rattle.complex.specs.Builder.{repeats};
-ghost use Rattle.complex.specs.Check.{pents_in, edges_in, triangles_in, holds};
+ghost use Rattle.complex.specs.Lent.{pents_of, edges_of, triangles_of, IsHolding};
 ghost use Rattle.marks.specs.Marks.{met, marked, marked_below};
 
-use complex::Counts;
+use complex::Complex;
 use incidence::{EdgeNumber, pents_of_edge, tris_of_edge};
 
 // Marks all numbers of a list.
@@ -25,26 +25,18 @@ pub fn mark_all(numbers: &[u32], marks: &mut [u8])
 
 // Marks the triangles on free edges.
 pub fn mark_tris<'a>(
-    counts: Counts,
-    edges: &'a [u32],
-    triangles: &'a [u32],
-    edge_to_tris_items: &'a [u32],
-    edge_to_tris_starts: &'a [u32],
+    complex: &Complex<'a>,
     free_edges: &'a [u32],
     marks: &mut [u8],
 )
-    requires { (holds (triangles_in counts triangles.now) (edges_in counts edges.now) edge_to_tris_items.now edge_to_tris_starts.now ≡ true)
-        × Below free_edges.now counts.edges × (counts.triangles ≤ length marks.old) }
-    ensures { marks.new ≡ marked (met (triangles_in counts triangles.now) (edges_in counts edges.now) free_edges.now) marks.old }
+    requires { (IsHolding (triangles_of complex.now) (edges_of complex.now) complex.now.edge_to_tris)
+        × Below free_edges.now complex.now.counts.edges × (complex.now.counts.triangles ≤ length marks.old) }
+    ensures { marks.new ≡ marked (met (triangles_of complex.now) (edges_of complex.now) free_edges.now) marks.old }
 {
     let mut k = 0;
     while k < free_edges.len() {
         let own = tris_of_edge(
-            counts,
-            edges,
-            triangles,
-            edge_to_tris_items,
-            edge_to_tris_starts,
+            complex,
             EdgeNumber(free_edges[k]),
         );
         mark_all(own, marks);
@@ -54,26 +46,18 @@ pub fn mark_tris<'a>(
 
 // Marks the pentachorons on free edges.
 pub fn mark_pents<'a>(
-    counts: Counts,
-    pents: &'a [u32],
-    edges: &'a [u32],
-    edge_to_pents_items: &'a [u32],
-    edge_to_pents_starts: &'a [u32],
+    complex: &Complex<'a>,
     free_edges: &'a [u32],
     marks: &mut [u8],
 )
-    requires { (holds (pents_in counts pents.now) (edges_in counts edges.now) edge_to_pents_items.now edge_to_pents_starts.now ≡ true)
-        × Below free_edges.now counts.edges × (counts.pentachorons ≤ length marks.old) }
-    ensures { marks.new ≡ marked (met (pents_in counts pents.now) (edges_in counts edges.now) free_edges.now) marks.old }
+    requires { (IsHolding (pents_of complex.now) (edges_of complex.now) complex.now.edge_to_pents)
+        × Below free_edges.now complex.now.counts.edges × (complex.now.counts.pentachorons ≤ length marks.old) }
+    ensures { marks.new ≡ marked (met (pents_of complex.now) (edges_of complex.now) free_edges.now) marks.old }
 {
     let mut k = 0;
     while k < free_edges.len() {
         let own = pents_of_edge(
-            counts,
-            pents,
-            edges,
-            edge_to_pents_items,
-            edge_to_pents_starts,
+            complex,
             EdgeNumber(free_edges[k]),
         );
         mark_all(own, marks);

@@ -1,4 +1,6 @@
 -- The steps of the one-pass table: the events of a pentachoron, and the lists of sums and bytes that become deficits and kinds. Assumes nothing.
+use Rattle.std.specs.Prelude.{Option, None}
+use Rattle.lorentzian.specs.declared.dihedral.HingeType.{HingeType}
 use Prim.Native.Nat.{ℕ, ◌+◌, ◌-◌, ◌<◌}
 use mathlib.Core.Path.{◌≡◌, refl, sym, ap, ◌∙◌, subst}
 use mathlib.Core.List.{List, [], ◌++◌, map, map-map, Memᴰ}
@@ -22,8 +24,6 @@ use Rattle.lorentzian.specs.declared.dihedral.Dihedral.{Dihedral}
 use Rattle.lorentzian.specs.declared.dihedral.Dihedral.TheVariants.{Angle}
 use Rattle.lorentzian.specs.Dihedral.{kind_number}
 use Rattle.hinges.specs.declared.hinge.Hinge.{Hinge}
-use Rattle.hinges.specs.declared.hinge.KindByte.{KindByte}
-use Rattle.hinges.specs.declared.hinge.KindByte.TheVariants.{NoKind}
 use Rattle.hinges.specs.Hinges.{FaceLists, byte_of, kind_in, plus, first, closed, pent_lengths, lengths_at, dihedral_of, local_pairs, without, dihedrals, pass_dihedrals, sums, first_kinds, hinges, deficits_of, kinds_of}
 use Rattle.hinges.specs.Parts.{Found}
 use Rattle.hinges.proofs.HingeKinds.{kind-byte}
@@ -82,17 +82,17 @@ module _ (F : FaceLists) (ls : List Float) (five : Wide 5 F.pents) (found : Foun
       ap (scatter d f (pass_dihedrals F ls)) (e ∙ ap (λ (k : ℕ). replicate n x ++ drop k old) (length-replicate n x))
       ∙ scatter-front d f (pass_dihedrals F ls) (replicate n x) (drop n old) (λ a m. subst (λ (k : ℕ). a.0 < k) (sym (length-replicate n x)) (all-below a m))
 
-  first_byte : (k : KindByte) (d : Dihedral) → byte_of (first k d) ≡ byte_of_first (byte_of k) d
+  first_byte : (k : (Option HingeType)) (d : Dihedral) → byte_of (first k d) ≡ byte_of_first (byte_of k) d
   unfolding byte_of_first
-  first_byte k d = ap (λ (u : KindByte). byte_of (first u d)) (sym (kind-byte k))
+  first_byte k d = ap (λ (u : (Option HingeType)). byte_of (first u d)) (sym (kind-byte k))
 
   -- the bytes after the pass are those of the first kinds
   bytes-first : scatter 0 byte_of_first (pass_dihedrals F ls) (replicate (length F.triangles) 2) ≡ map byte_of (first_kinds F ls)
   unfolding first_kinds
   bytes-first =
       let n = length F.triangles in
-      ap (scatter 0 byte_of_first (pass_dihedrals F ls)) (sym (map-replicate byte_of n NoKind))
-      ∙ scatter-map NoKind first byte_of 0 byte_of_first first_byte (pass_dihedrals F ls) (replicate n NoKind) (λ a m. subst (λ (k : ℕ). a.0 < k) (sym (length-replicate n NoKind)) (all-below a m))
+      ap (scatter 0 byte_of_first (pass_dihedrals F ls)) (sym (map-replicate byte_of n None))
+      ∙ scatter-map None first byte_of 0 byte_of_first first_byte (pass_dihedrals F ls) (replicate n None) (λ a m. subst (λ (k : ℕ). a.0 < k) (sym (length-replicate n None)) (all-below a m))
 
   module _ (d d1 d2 : List Float) (k k1 k2 : List ℕ)
       (zeros : d1 ≡ over (replicate (length F.triangles) zero) d) (none : k1 ≡ over (replicate (length F.triangles) 2) k)
@@ -110,18 +110,18 @@ module _ (F : FaceLists) (ls : List Float) (five : Wide 5 F.pents) (found : Foun
 
     length-firsts : length (first_kinds F ls) ≡ length F.triangles
     unfolding first_kinds
-    length-firsts = length-scatter NoKind first (pass_dihedrals F ls) (replicate (length F.triangles) NoKind) ∙ length-replicate (length F.triangles) NoKind
+    length-firsts = length-scatter None first (pass_dihedrals F ls) (replicate (length F.triangles) None) ∙ length-replicate (length F.triangles) None
 
     -- the sum and the byte of a triangle
-    read_at : (t : ℕ) → t < length F.triangles → closed (kind_in (get_or k2 t 0)) (get_or d2 t nan) ≡ closed (get_or (first_kinds F ls) t NoKind) (get_or (sums F ls) t nan)
+    read_at : (t : ℕ) → t < length F.triangles → closed (kind_in (get_or k2 t 0)) (get_or d2 t nan) ≡ closed (get_or (first_kinds F ls) t None) (get_or (sums F ls) t nan)
     read_at t h =
         let rest-d = drop (length F.triangles) d in
         let rest-k = drop (length F.triangles) k in
         let m : t < length (first_kinds F ls) = omega (arith, length-firsts) in
         let s : get_or d2 t nan ≡ get_or (sums F ls) t nan = ap (λ (l : List Float). get_or l t nan) sums-are ∙ get_or-append (sums F ls) rest-d nan t (omega (arith, length-sums)) in
-        let b : get_or k2 t 0 ≡ byte_of (get_or (first_kinds F ls) t NoKind) =
-        ap (λ (l : List ℕ). get_or l t 0) bytes-are ∙ get_or-append (map byte_of (first_kinds F ls)) rest-k 0 t (omega (arith, length-firsts, length-map (first_kinds F ls) byte_of)) ∙ get_or-map byte_of (first_kinds F ls) t NoKind 0 m in
-        rw (s, b, kind-byte (get_or (first_kinds F ls) t NoKind)) refl
+        let b : get_or k2 t 0 ≡ byte_of (get_or (first_kinds F ls) t None) =
+        ap (λ (l : List ℕ). get_or l t 0) bytes-are ∙ get_or-append (map byte_of (first_kinds F ls)) rest-k 0 t (omega (arith, length-firsts, length-map (first_kinds F ls) byte_of)) ∙ get_or-map byte_of (first_kinds F ls) t None 0 m in
+        rw (s, b, kind-byte (get_or (first_kinds F ls) t None)) refl
 
     -- what the pass leaves past the triangles is kept
     tail-kept : {S : Type 0} (front : List S) (old : List S) → length front ≡ length F.triangles → drop (length F.triangles) (front ++ drop (length F.triangles) old) ≡ drop (length F.triangles) old
@@ -131,9 +131,9 @@ module _ (F : FaceLists) (ls : List Float) (five : Wide 5 F.pents) (found : Foun
     closed_all : {S : Type 0} (g : Hinge → S) → map (λ t. g (closed (kind_in (get_or k2 t 0)) (get_or d2 t nan))) (upto (length F.triangles)) ≡ map g (hinges F ls)
     unfolding hinges
     closed_all {S} g =
-        map_same (λ t. g (closed (kind_in (get_or k2 t 0)) (get_or d2 t nan))) (λ t. g (closed (get_or (first_kinds F ls) t NoKind) (get_or (sums F ls) t nan))) (upto (length F.triangles))
+        map_same (λ t. g (closed (kind_in (get_or k2 t 0)) (get_or d2 t nan))) (λ t. g (closed (get_or (first_kinds F ls) t None) (get_or (sums F ls) t nan))) (upto (length F.triangles))
         (λ t m. ap g (read_at t (mem-upto (length F.triangles) t m)))
-        ∙ sym (map-map g (λ t. closed (get_or (first_kinds F ls) t NoKind) (get_or (sums F ls) t nan)) (upto (length F.triangles)))
+        ∙ sym (map-map g (λ t. closed (get_or (first_kinds F ls) t None) (get_or (sums F ls) t nan)) (upto (length F.triangles)))
 
     pub table-deficits : (d3 : List Float) → d3 ≡ map (λ t. (closed (kind_in (get_or k2 t 0)) (get_or d2 t nan)).deficit) (upto (length F.triangles)) ++ drop (length F.triangles) d2 → d3 ≡ over (deficits_of (hinges F ls)) d
     unfolding over

@@ -9,13 +9,13 @@ ghost use Rattle.lists.specs.Rows.{over};
 ghost use Rattle.lists.specs.Groups.{Below};
 ghost use Rattle.lists.specs.Loops.{scatter};
 ghost use Rattle.lorentzian.specs.Dihedral.{kind_number};
-ghost use Rattle.hinges.specs.Hinges.{faces_in, kind_in, plus, closed, dihedral_of, local_pairs, pass_dihedrals, hinges, deficits_of, kinds_of};
-ghost use Rattle.hinges.specs.Parts.{Passable};
+ghost use Rattle.hinges.specs.Hinges.{faces_of, kind_in, plus, closed, dihedral_of, local_pairs, pass_dihedrals, hinges, deficits_of, kinds_of};
+ghost use Rattle.hinges.specs.Parts.{IsPassable};
 ghost use Rattle.one_pass.specs.Pass.{byte_of_first, ten_events};
 
-use complex::Counts;
+use complex::{Complex, Incidence};
 use geometry::cm_cofactors;
-use hinges::{KindByte, closed, kind_in, pent_sq_lengths, zero_all};
+use hinges::{byte_of, closed, first, kind_in, pent_sq_lengths, zero_all};
 use incidence::{PentachoronNumber, TriangleNumber, pent_edge_indices, pent_tri_indices};
 use lorentzian::{Dihedral, compute_dihedral};
 
@@ -28,7 +28,7 @@ fn clear_kinds(n: usize, kinds: &mut [u8])
 {
     let mut k = 0;
     while k < n {
-        kinds[k] = KindByte::NoKind.byte();
+        kinds[k] = byte_of(None);
         k += 1;
     }
 }
@@ -67,7 +67,7 @@ fn add_dihedral(tri: TriangleNumber, dihedral: Dihedral, sums: &mut [f64], kinds
 {
     let t = tri.0 as usize;
     sums[t] += dihedral.value();
-    kinds[t] = kind_in(kinds[t]).or_kind_of(dihedral).byte();
+    kinds[t] = byte_of(first(kind_in(kinds[t]), dihedral));
 }
 
 // The ten dihedrals of a pentachoron, each at the triangle that its pair of vertices leaves.
@@ -85,26 +85,22 @@ fn add_ten(tris: &[u32], dihedrals: [Dihedral; 10], sums: &mut [f64], kinds: &mu
 
 // The dihedrals of all pentachorons, in their order.
 fn add_all_dihedrals<'a>(
-    counts: Counts,
-    pents: &'a [u32],
-    edges: &'a [u32],
-    triangles: &'a [u32],
-    pent_edges: &'a [u32],
-    pent_tris: &'a [u32],
+    complex: &Complex<'a>,
+    incidence: &Incidence<'a>,
     sq_lengths: &'a [f64],
     sums: &mut [f64],
     kinds: &mut [u8],
 )
-    requires { Passable counts pents.now edges.now triangles.now pent_edges.now pent_tris.now (length sq_lengths.now)
-        × (counts.triangles ≤ length sums.old) × (counts.triangles ≤ length kinds.old) }
-    ensures { (sums.new ≡ scatter nan plus (pass_dihedrals (faces_in counts pents.now edges.now triangles.now) sq_lengths.now) sums.old)
-        × (kinds.new ≡ scatter 0 byte_of_first (pass_dihedrals (faces_in counts pents.now edges.now triangles.now) sq_lengths.now) kinds.old) }
+    requires { IsPassable complex.now incidence.now (length sq_lengths.now)
+        × (complex.now.counts.triangles ≤ length sums.old) × (complex.now.counts.triangles ≤ length kinds.old) }
+    ensures { (sums.new ≡ scatter nan plus (pass_dihedrals (faces_of complex.now) sq_lengths.now) sums.old)
+        × (kinds.new ≡ scatter 0 byte_of_first (pass_dihedrals (faces_of complex.now) sq_lengths.now) kinds.old) }
 {
     let mut p = 0u32;
-    while (p as usize) < counts.pentachorons {
+    while (p as usize) < complex.counts.pentachorons {
         let pent = PentachoronNumber(p);
-        let own = pent_edge_indices(counts, pents, edges, pent_edges, pent);
-        let tris = pent_tri_indices(counts, pents, triangles, pent_tris, pent);
+        let own = pent_edge_indices(complex, incidence, pent);
+        let tris = pent_tri_indices(complex, incidence, pent);
         let s = pent_sq_lengths(own, sq_lengths);
         add_ten(tris, ten_dihedrals(&s), sums, kinds);
         p += 1;
@@ -124,7 +120,7 @@ fn close_all(n: usize, sums: &mut [f64], kinds: &mut [u8])
         let hinge = closed(kind_in(kinds[k]), sums[k]);
         let kind = hinge.kind;
         sums[k] = hinge.deficit;
-        kinds[k] = KindByte::Kind(kind).byte();
+        kinds[k] = kind.number();
         k += 1;
     }
 }
@@ -133,25 +129,21 @@ fn close_all(n: usize, sums: &mut [f64], kinds: &mut [u8])
 
 // The deficits and kinds of all triangles.
 pub fn write_table<'a>(
-    counts: Counts,
-    pents: &'a [u32],
-    edges: &'a [u32],
-    triangles: &'a [u32],
-    pent_edges: &'a [u32],
-    pent_tris: &'a [u32],
+    complex: &Complex<'a>,
+    incidence: &Incidence<'a>,
     sq_lengths: &'a [f64],
     deficits: &mut [f64],
     kinds: &mut [u8],
 )
-    requires { Passable counts pents.now edges.now triangles.now pent_edges.now pent_tris.now (length sq_lengths.now)
-        × (counts.triangles ≤ length deficits.old) × (counts.triangles ≤ length kinds.old) }
-    ensures { (deficits.new ≡ over (deficits_of (hinges (faces_in counts pents.now edges.now triangles.now) sq_lengths.now)) deficits.old)
-        × (kinds.new ≡ over (kinds_of (hinges (faces_in counts pents.now edges.now triangles.now) sq_lengths.now)) kinds.old) }
+    requires { IsPassable complex.now incidence.now (length sq_lengths.now)
+        × (complex.now.counts.triangles ≤ length deficits.old) × (complex.now.counts.triangles ≤ length kinds.old) }
+    ensures { (deficits.new ≡ over (deficits_of (hinges (faces_of complex.now) sq_lengths.now)) deficits.old)
+        × (kinds.new ≡ over (kinds_of (hinges (faces_of complex.now) sq_lengths.now)) kinds.old) }
 {
-    zero_all(counts.triangles, deficits);
-    clear_kinds(counts.triangles, kinds);
+    zero_all(complex.counts.triangles, deficits);
+    clear_kinds(complex.counts.triangles, kinds);
     add_all_dihedrals(
-        counts, pents, edges, triangles, pent_edges, pent_tris, sq_lengths, deficits, kinds,
+        complex, incidence, sq_lengths, deficits, kinds,
     );
-    close_all(counts.triangles, deficits, kinds);
+    close_all(complex.counts.triangles, deficits, kinds);
 }

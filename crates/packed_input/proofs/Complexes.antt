@@ -1,4 +1,6 @@
 -- The input's complex, by what its header and the builder say, and its size. Assumes nothing.
+use Rattle.refusals.specs.Refusals.{Done, Outcome}
+use Rattle.std.specs.Prelude.{Err, Ok}
 use Prim.Native.Nat.{ℕ, ◌+◌, ◌*◌, ◌/◌, ◌%◌, ◌≤◌}
 use mathlib.Core.Bool.{false, cond, ◌||◌}
 use mathlib.Core.Path.{◌≡◌, refl, sym, ap, ◌∙◌}
@@ -9,13 +11,12 @@ use lib.ListN.{length, take, length-map}
 use borrow.Author.Tests.{eq-eqb, le-ltb}
 use Rattle.refusals.specs.declared.Refusal.{Refusal}
 use Rattle.refusals.specs.declared.Refusal.TheVariants.{VertexCount}
-use Rattle.refusals.specs.declared.Outcome.{Outcome}
 use Rattle.lists.specs.Lists.{upto}
 use Rattle.lists.specs.Rows.{Wide, over}
 use Rattle.lists.proofs.Elements.{length-upto}
 use Rattle.lists.proofs.Keys.{firsts-room}
 use Rattle.lists.proofs.Rows.{over-take}
-use Rattle.complex.specs.declared.Built.{Built}
+use Rattle.complex.specs.Builder.{Built}
 use Rattle.complex.specs.declared.numbering.Face.{Face}
 use Rattle.complex.specs.declared.numbering.Face.TheVariants.{Edge, Triangle}
 use Rattle.complex.specs.Complex.{count_of, met_faces, faces, edges, triangles}
@@ -49,18 +50,18 @@ room-enough P h =
 
 module _ (input : List ℕ) where
   -- a refused header decides
-  pub header-decides : (r : Refusal) → header_check_of input ≡ Outcome.Refused r → complex_check_of input ≡ Outcome.Refused r
+  pub header-decides : (r : Refusal) → header_check_of input ≡ Err r → complex_check_of input ≡ Err r
   unfolding complex_check_of
   header-decides r e = rw e refl
 
   -- else the builder does
-  pub builder-decides : header_check_of input ≡ Outcome.Done → complex_check_of input ≡ check_of (vertex_count input) (given_in input) (room_for 64)
+  pub builder-decides : header_check_of input ≡ Done → complex_check_of input ≡ check_of (vertex_count input) (given_in input) (room_for 64)
   unfolding complex_check_of
   builder-decides e = rw e refl
 
   -- with room for 64 it refuses nothing but 1, 3 and 4
-  pub builder_refuses : header_check_of input ≡ Outcome.Done
-      → complex_check_of input ≡ cond (eqb (vertex_count input) 0 || ltb 4096 (vertex_count input)) (Outcome.Refused VertexCount) (offence (vertex_count input) 0 (pentachorons (given_in input)))
+  pub builder_refuses : header_check_of input ≡ Done
+      → complex_check_of input ≡ cond (eqb (vertex_count input) 0 || ltb 4096 (vertex_count input)) (Err VertexCount) (offence (vertex_count input) 0 (pentachorons (given_in input)))
   unfolding check_of
   builder_refuses e =
       let few = (header-says input e).1 in
@@ -69,7 +70,7 @@ module _ (input : List ℕ) where
       ∙ rw (eq-eqb (length (given_in input) % 5) 0 (omega arith), le-ltb 40960 (length (given_in input)) (omega arith), room-enough (length (given_in input) / 5) (omega arith)) refl
 
   -- what the builder answers and leaves is the input's complex
-  pub builder-answers : (n : ℕ) (given : List ℕ) (before after : Lists) (r : Built) → header_check_of input ≡ Outcome.Done → n ≡ vertex_count input → given ≡ given_in input
+  pub builder-answers : (n : ℕ) (given : List ℕ) (before after : Lists) (r : Built) → header_check_of input ≡ Done → n ≡ vertex_count input → given ≡ given_in input
       → rooms_of before ≡ room_for 64 → Builds n given before r after → (r ≡ complex_of input) × (after ≡ lists_after (complex_check_of input) (given_in input) before)
   builder-answers n given before after r h en eg er b =
       let o : check_of n given (rooms_of before) ≡ complex_check_of input = (λ i. check_of (en i) (eg i) (er i)) ∙ sym (builder-decides h) in
@@ -78,13 +79,13 @@ module _ (input : List ℕ) where
 -- ---- its size
 
 -- what is decoded to a complex has a header
-pub header-passed : (input : List ℕ) → complex_check_of input ≡ Outcome.Done → header_check_of input ≡ Outcome.Done
+pub header-passed : (input : List ℕ) → complex_check_of input ≡ Done → header_check_of input ≡ Done
 unfolding complex_check_of
 header-passed input = go (header_check_of input)
   where
-    go : (o : Outcome) → then_check o (check_of (vertex_count input) (given_in input) (room_for 64)) ≡ Outcome.Done → o ≡ Outcome.Done
-    go Outcome.Done e = refl
-    go (Outcome.Refused r) e = e
+    go : (o : Outcome) → then_check o (check_of (vertex_count input) (given_in input) (room_for 64)) ≡ Done → o ≡ Done
+    go (Ok u) e = refl
+    go (Err r) e = e
 
 -- there are no more faces of a kind than are met
 met-few : (f : Face) (ps : List (List ℕ)) → Wide 5 ps → length (faces f ps) ≤ count_of f * length ps
@@ -92,7 +93,7 @@ unfolding faces
 met-few f ps five = omega (arith, firsts-room (met_faces f ps), length-met f ps five)
 
 -- the input's complex has at most 64 pentachorons, and at most 640 edges and triangles
-pub small-complex : (input : List ℕ) → complex_check_of input ≡ Outcome.Done
+pub small-complex : (input : List ℕ) → complex_check_of input ≡ Done
     → (length (sorted_pents (given_in input)) ≤ 64) × (length (edges (sorted_pents (given_in input))) ≤ 640) × (length (triangles (sorted_pents (given_in input))) ≤ 640)
 small-complex input e =
     let h = header-says input (header-passed input e) in
@@ -106,5 +107,5 @@ unfolding counts_of
 few-complex input = go (complex_check_of input) refl
   where
     go : (o : Outcome) → complex_check_of input ≡ o → Few (built_of o (vertex_count input) (given_in input)) 640
-    go Outcome.Done e = let s = small-complex input e in (s.0, s.1, s.1)
-    go (Outcome.Refused r) e = tt
+    go (Ok u) e = let s = small-complex input e in (s.0, s.1, s.1)
+    go (Err r) e = tt

@@ -1,4 +1,6 @@
 -- What an input that is not refused decodes to: a built complex of its pentachorons, with as many squared lengths as edges. Assumes nothing.
+use Rattle.refusals.specs.Refusals.{Done, Outcome}
+use Rattle.std.specs.Prelude.{Err, Ok}
 use Prim.Native.Nat.{ℕ, ◌≤◌}
 use mathlib.Core.Path.{◌≡◌, refl, sym, ap, ◌∙◌}
 use mathlib.Core.Bool.{true}
@@ -7,14 +9,12 @@ use native.Mathlib.Omega.{arith}
 use lib.Ieee.{Float}
 use lib.ListN.{length, take, drop, replicate, length-map}
 use lib.Seq.{take_at}
-use Rattle.refusals.specs.declared.Outcome.{Outcome}
 use Rattle.floats.specs.Ops.{zero}
 use Rattle.lists.specs.Lists.{upto}
 use Rattle.lists.specs.Rows.{over}
 use Rattle.lists.proofs.Elements.{length-upto}
 use Rattle.lists.proofs.Rows.{rows-flat}
 use Rattle.complex.specs.declared.Counts.{Counts}
-use Rattle.complex.specs.declared.Built.TheVariants.{Done}
 use Rattle.complex.specs.Builder.{sorted_pents, check_of, built_of, counts_of, Lists, written, over_all, lists_after, rooms_of}
 use Rattle.complex.specs.Check.{pents_in, room_for, is_built}
 use Rattle.complex.proofs.SortedPents.{sorted-wide-all}
@@ -25,20 +25,20 @@ use Rattle.packed_input.proofs.Complexes.{header-passed, builder-decides, small-
 
 -- ---- an answer
 
-tail-counts : (o : Outcome) (c d : Counts) → Done c ≡ counts_by o d → c ≡ d
-tail-counts Outcome.Done c d e = cc
-tail-counts (Outcome.Refused r) c d e = absurd (let z : ◌≡◌ {A = ℕ} 0 1 = cc in omega arith)
+tail-counts : (o : Outcome) (c d : Counts) → Ok c ≡ counts_by o d → c ≡ d
+tail-counts (Ok u) c d e = cc
+tail-counts (Err r) c d e = absurd (let z : ◌≡◌ {A = ℕ} 0 1 = cc in omega arith)
 
-answer-counts : (input : List ℕ) (o : Outcome) (n : ℕ) (given : List ℕ) (c : Counts) → Done c ≡ with_lengths input (built_of o n given) → (o ≡ Outcome.Done) × (c ≡ counts_of n (sorted_pents given))
-answer-counts input Outcome.Done n given c e = (refl, tail-counts (tail_check_of input (counts_of n (sorted_pents given)).pentachorons (counts_of n (sorted_pents given)).edges) c (counts_of n (sorted_pents given)) e)
-answer-counts input (Outcome.Refused r) n given c e = absurd (let z : ◌≡◌ {A = ℕ} 0 1 = cc in omega arith)
+answer-counts : (input : List ℕ) (o : Outcome) (n : ℕ) (given : List ℕ) (c : Counts) → Ok c ≡ with_lengths input (built_of o n given) → (o ≡ Done) × (c ≡ counts_of n (sorted_pents given))
+answer-counts input (Ok u) n given c e = (refl, tail-counts (tail_check_of input (counts_of n (sorted_pents given)).pentachorons (counts_of n (sorted_pents given)).edges) c (counts_of n (sorted_pents given)) e)
+answer-counts input (Err r) n given c e = absurd (let z : ◌≡◌ {A = ℕ} 0 1 = cc in omega arith)
 
 -- an input that decodes to counts passes all checks, and the counts are those of its pentachorons
-pub decoded-counts : (input : List ℕ) (c : Counts) → Done c ≡ decoded_of input → (complex_check_of input ≡ Outcome.Done) × (c ≡ counts_of (vertex_count input) (sorted_pents (given_in input)))
+pub decoded-counts : (input : List ℕ) (c : Counts) → Ok c ≡ decoded_of input → (complex_check_of input ≡ Done) × (c ≡ counts_of (vertex_count input) (sorted_pents (given_in input)))
 decoded-counts input c e = answer-counts input (complex_check_of input) (vertex_count input) (given_in input) c e
 
 -- it has at most 640 edges and 640 triangles
-pub decoded-few : (input : List ℕ) (c : Counts) → Done c ≡ decoded_of input → (c.edges ≤ 640) × (c.triangles ≤ 640)
+pub decoded-few : (input : List ℕ) (c : Counts) → Ok c ≡ decoded_of input → (c.edges ≤ 640) × (c.triangles ≤ 640)
 unfolding counts_of
 decoded-few input c e =
     let d = decoded-counts input c e in
@@ -51,14 +51,14 @@ zero_rooms : rooms_of zero_lists ≡ room_for 64
 unfolding rooms_of zero_lists
 zero_rooms = refl
 
-module _ (input : List ℕ) (c : Counts) (l : Lists) (ls : List Float) (d : Decodes input (Done c) l ls) where
-  counts : (complex_check_of input ≡ Outcome.Done) × (c ≡ counts_of (vertex_count input) (sorted_pents (given_in input)))
+module _ (input : List ℕ) (c : Counts) (l : Lists) (ls : List Float) (d : Decodes input (Ok c) l ls) where
+  counts : (complex_check_of input ≡ Done) × (c ≡ counts_of (vertex_count input) (sorted_pents (given_in input)))
   counts = decoded-counts input c d.answered
 
   lists-are : l ≡ over_all (written (sorted_pents (given_in input))) zero_lists
   lists-are = d.complex ∙ ap (λ (o : Outcome). lists_after o (given_in input) zero_lists) counts.0
 
-  checked : check_of (vertex_count input) (given_in input) (rooms_of zero_lists) ≡ Outcome.Done
+  checked : check_of (vertex_count input) (given_in input) (rooms_of zero_lists) ≡ Done
   checked = ap (check_of (vertex_count input) (given_in input)) zero_rooms ∙ sym (builder-decides input (header-passed input counts.0)) ∙ counts.0
 
   -- the complex is built
@@ -66,7 +66,7 @@ module _ (input : List ℕ) (c : Counts) (l : Lists) (ls : List Float) (d : Deco
   decoded-built =
       builder-built (vertex_count input) (given_in input) zero_lists l c
       (record {
-        answered = rw checked (ap Done counts.1);
+        answered = rw checked (ap Ok counts.1);
         left = rw checked lists-are;
       })
 

@@ -1,4 +1,6 @@
 -- An input that is longer than any lawful one is refused by its beginning: the program may stop reading there. Assumes nothing.
+use Rattle.refusals.specs.Refusals.{Outcome}
+use Rattle.std.specs.Prelude.{Err, Ok}
 use Prim.Native.Nat.{ℕ, zero, suc, ◌+◌, ◌*◌, ◌/◌, ◌≤◌, ◌<◌}
 use mathlib.Core.Path.{◌≡◌, refl, sym, ap, ◌∙◌}
 use mathlib.Core.List.{List}
@@ -6,12 +8,10 @@ use mathlib.Core.Logic.{⊎_elim}
 use native.Mathlib.Omega.{arith}
 use lib.ListN.{length, take}
 use lib.Seq.{get_or-take, length-take-le}
-use Rattle.refusals.specs.declared.Outcome.{Outcome}
 use Rattle.lists.specs.Lists.{upto}
 use Rattle.lists.proofs.Elements.{map_same, mem-upto}
 use Rattle.lists.proofs.Tests.{lt-or-ge}
-use Rattle.complex.specs.declared.Built.{Built}
-use Rattle.complex.specs.declared.Built.TheVariants.{Done, Refused}
+use Rattle.complex.specs.Builder.{Built}
 use Rattle.complex.specs.Builder.{check_of, built_of}
 use Rattle.complex.specs.Check.{room_for}
 use Rattle.packed_input.specs.Format.{bit_at, field, vertex_count, pent_count, vertex_at, vertices}
@@ -69,10 +69,10 @@ module _ (input : List ℕ) (n : ℕ) (long : 5605 ≤ n) (fits : n ≤ length i
 
   -- no lawful lengths are as long
   tail-same : (b : Built) → Few b 640 → with_lengths front b ≡ with_lengths input b
-  tail-same (Done c) few =
+  tail-same (Ok c) few =
       ap (λ (o : Outcome). counts_by o c)
       (sym (tail-long front c.pentachorons c.edges (λ e. omega (arith, front_long))) ∙ tail-long input c.pentachorons c.edges (λ e. omega arith))
-  tail-same (Refused r) few = refl
+  tail-same (Err r) few = refl
 
   -- the answer is that of the beginning
   pub beginning-decides : decoded_of front ≡ decoded_of input

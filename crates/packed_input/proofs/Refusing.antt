@@ -1,11 +1,12 @@
 -- The refusals of the program's input, by what is counted in bytes. Assumes nothing.
+use Rattle.refusals.specs.Refusals.{Done}
+use Rattle.std.specs.Prelude.{Err}
 use Prim.Native.Nat.{ℕ, ◌+◌, ◌*◌, ◌<◌, ◌≤◌}
 use mathlib.Core.Path.{◌≡◌, refl}
 use mathlib.Core.List.{List}
 use native.Mathlib.Omega.{arith}
 use lib.ListN.{length}
 use borrow.Author.Tests.{lt-ltb, le-ltb, eq-eqb, ne_eqb, ltb-false, eqb-true, not-false}
-use Rattle.refusals.specs.declared.Outcome.TheVariants.{Done, Refused}
 use Rattle.refusals.specs.declared.Refusal.TheVariants.{BadInput, TooManyPentachorons}
 use Rattle.complex.proofs.Offences.{cond-done, or-false}
 use Rattle.packed_input.specs.Format.{pent_count, vertices_end, lengths_start, padding}
@@ -15,18 +16,18 @@ use Rattle.packed_input.specs.Decoding.{header_check_of, tail_check_of}
 
 module _ (input : List ℕ) where
   -- fewer than four bytes hold no header
-  pub header-short : length input < 4 → Refused BadInput ≡ header_check_of input
+  pub header-short : length input < 4 → Err BadInput ≡ header_check_of input
   unfolding header_check_of
   header-short h = rw (lt-ltb (8 * length input) 27 (omega arith)) refl
 
   module _ (some : 4 ≤ length input) where
     -- more than 64 pentachorons
-    pub header-many : (P : ℕ) → P ≡ pent_count input → 64 < P → Refused TooManyPentachorons ≡ header_check_of input
+    pub header-many : (P : ℕ) → P ≡ pent_count input → 64 < P → Err TooManyPentachorons ≡ header_check_of input
     unfolding header_check_of
     header-many P e h = rw (le-ltb (8 * length input) 27 (omega arith), ← e, lt-ltb 64 P h) refl
 
     -- the bytes end before the vertices do
-    pub header-cut : (P : ℕ) → P ≡ pent_count input → P ≤ 64 → length input < lengths_start P → Refused BadInput ≡ header_check_of input
+    pub header-cut : (P : ℕ) → P ≡ pent_count input → P ≤ 64 → length input < lengths_start P → Err BadInput ≡ header_check_of input
     unfolding header_check_of
     header-cut P e few h = rw (le-ltb (8 * length input) 27 (omega arith), ← e, le-ltb 64 P few, lt-ltb (8 * length input) (vertices_end P) (omega arith)) refl
 
@@ -48,13 +49,13 @@ module _ (input : List ℕ) where
 
 module _ (input : List ℕ) (P E : ℕ) where
   -- the lengths do not end the input
-  pub tail-long : (length input ≡ lengths_start P + 8 * E → ⊥) → Refused BadInput ≡ tail_check_of input P E
+  pub tail-long : (length input ≡ lengths_start P + 8 * E → ⊥) → Err BadInput ≡ tail_check_of input P E
   unfolding tail_check_of
   tail-long h = rw (ne_eqb (length input) (lengths_start P + 8 * E) h) refl
 
   module _ (ends : length input ≡ lengths_start P + 8 * E) where
     -- a bit between vertices and lengths is set
-    pub tail-set : (padding input P ≡ 0 → ⊥) → Refused BadInput ≡ tail_check_of input P E
+    pub tail-set : (padding input P ≡ 0 → ⊥) → Err BadInput ≡ tail_check_of input P E
     unfolding tail_check_of
     tail-set h = rw (eq-eqb (length input) (lengths_start P + 8 * E) ends, ne_eqb (padding input P) 0 h) refl
 

@@ -1,12 +1,11 @@
 -- Decoding the program's input: when it is refused, and the complex and the squared lengths that it decodes to. Definitions only.
-use Rattle.std.specs.Prelude.{ℕ, ◌+◌, ◌*◌, ◌≤◌, ◌≡◌, not, cond, ◌||◌, List, eqb, ltb, Float, length, replicate}
+use Rattle.refusals.specs.Refusals.{Done, Outcome}
+use Rattle.std.specs.Prelude.{ℕ, ◌+◌, ◌*◌, ◌≤◌, ◌≡◌, not, cond, ◌||◌, List, eqb, ltb, Float, length, replicate, Err, Ok}
 use Rattle.refusals.specs.declared.Refusal.TheVariants.{BadInput, TooManyPentachorons}
-use Rattle.refusals.specs.declared.Outcome.{Outcome}
 use Rattle.floats.specs.Ops.{zero}
 use Rattle.lists.specs.Rows.{over}
 use Rattle.complex.specs.declared.Counts.{Counts}
-use Rattle.complex.specs.declared.Built.{Built}
-use Rattle.complex.specs.declared.Built.TheVariants.{Done, Refused}
+use Rattle.complex.specs.Builder.{Built}
 use Rattle.complex.specs.Builder.{check_of, built_of, Lists, lists, lists_after}
 use Rattle.complex.specs.Check.{room_for}
 use Rattle.packed_input.specs.Format.{vertex_count, pent_count, vertices_end, vertices, lengths_start, padding, sq_lengths_in}
@@ -16,14 +15,14 @@ use Rattle.packed_input.specs.Format.{vertex_count, pent_count, vertices_end, ve
 -- 12 where the header is short, then 13 where there are more than 64 pentachorons, then 12 where the vertices are cut short
 unfoldable pub header_check_of : List ℕ → Outcome
 header_check_of input =
-    cond (ltb (8 * length input) 27) (Outcome.Refused BadInput)
-    (cond (ltb 64 (pent_count input)) (Outcome.Refused TooManyPentachorons)
-    (cond (ltb (8 * length input) (vertices_end (pent_count input))) (Outcome.Refused BadInput) Outcome.Done))
+    cond (ltb (8 * length input) 27) (Err BadInput)
+    (cond (ltb 64 (pent_count input)) (Err TooManyPentachorons)
+    (cond (ltb (8 * length input) (vertices_end (pent_count input))) (Err BadInput) Done))
 
 -- a first check's refusal, then what a second check says
 abbrev pub then_check : Outcome → Outcome → Outcome
-then_check Outcome.Done second = second
-then_check (Outcome.Refused r) second = Outcome.Refused r
+then_check (Ok u) second = second
+then_check (Err r) second = Err r
 
 -- the vertices of the input's pentachorons
 abbrev pub given_in : List ℕ → List ℕ
@@ -35,7 +34,7 @@ complex_check_of input = then_check (header_check_of input) (check_of (vertex_co
 
 -- 12 where a bit between the vertices and the lengths is set, or the lengths of E edges do not end the input exactly
 unfoldable pub tail_check_of : List ℕ → ℕ → ℕ → Outcome
-tail_check_of input P E = cond (not (eqb (length input) (lengths_start P + 8 * E)) || not (eqb (padding input P) 0)) (Outcome.Refused BadInput) Outcome.Done
+tail_check_of input P E = cond (not (eqb (length input) (lengths_start P + 8 * E)) || not (eqb (padding input P) 0)) (Err BadInput) Done
 
 -- ---- the answer
 
@@ -45,13 +44,13 @@ complex_of input = built_of (complex_check_of input) (vertex_count input) (given
 
 -- counts, or the refusal of a check
 abbrev pub counts_by : Outcome → Counts → Built
-counts_by Outcome.Done c = Done c
-counts_by (Outcome.Refused r) c = Refused r
+counts_by (Ok u) c = Ok c
+counts_by (Err r) c = Err r
 
 -- counts whose lengths are checked too, or the refusal
 abbrev pub with_lengths : List ℕ → Built → Built
-with_lengths input (Done c) = counts_by (tail_check_of input c.pentachorons c.edges) c
-with_lengths input (Refused r) = Refused r
+with_lengths input (Ok c) = counts_by (tail_check_of input c.pentachorons c.edges) c
+with_lengths input (Err r) = Err r
 
 -- the answer: the counts of the complex, or the first refusal in 01's order
 abbrev pub decoded_of : List ℕ → Built
@@ -61,13 +60,13 @@ decoded_of input = with_lengths input (complex_of input)
 
 -- a list of squared lengths after the call, by its answer: unchanged where it refuses
 abbrev pub lengths_after : List ℕ → Built → List Float → List Float
-lengths_after input (Done c) old = over (sq_lengths_in input c.pentachorons c.edges) old
-lengths_after input (Refused r) old = old
+lengths_after input (Ok c) old = over (sq_lengths_in input c.pentachorons c.edges) old
+lengths_after input (Err r) old = old
 
 -- a complex of at most 64 pentachorons, with at most 640 edges, for whose lengths a list has places
 abbrev pub Few : Built → ℕ → Type 0
-Few (Done c) places = (c.pentachorons ≤ 64) × (c.edges ≤ 640) × (c.edges ≤ places)
-Few (Refused r) places = Unit {0}
+Few (Ok c) places = (c.pentachorons ≤ 64) × (c.edges ≤ 640) × (c.edges ≤ places)
+Few (Err r) places = Unit {0}
 
 -- ten lists of zeros, with the room for 64 pentachorons
 unfoldable pub zero_lists : Lists

@@ -6,7 +6,7 @@ ghost use Rattle.packed_input.specs.Format.{vertex_count, pent_count, vertices_e
 ghost use Rattle.packed_input.specs.Decoding.{header_check_of, tail_check_of};
 
 use crate::bits::number;
-use refusals::{Outcome, Refusal};
+use refusals::Refusal;
 
 // The byte at which the lengths start.
 fn lengths_start(n_pents: usize) -> usize
@@ -17,20 +17,20 @@ fn lengths_start(n_pents: usize) -> usize
 }
 
 // 12 for a short header, 13 for more than 64 pentachorons, 12 for vertices that are cut short.
-pub fn check_header(input: &[u8]) -> Outcome
+pub fn check_header(input: &[u8]) -> Result<(), Refusal>
     ensures { result ≡ header_check_of input.now }
 {
     if input.len() < 4 {
-        return Outcome::Refused(Refusal::BadInput);
+        return Err(Refusal::BadInput);
     }
     let n_pents = number(input, 13, 14) as usize;
     if 64 < n_pents {
-        return Outcome::Refused(Refusal::TooManyPentachorons);
+        return Err(Refusal::TooManyPentachorons);
     }
     if input.len() < lengths_start(n_pents) {
-        return Outcome::Refused(Refusal::BadInput);
+        return Err(Refusal::BadInput);
     }
-    Outcome::Done
+    Ok(())
 }
 
 // Writes the vertices of the pentachorons to the front of a list.
@@ -44,19 +44,19 @@ pub fn read_vertices(input: &[u8], n_pents: usize, given: &mut [u32])
 }
 
 // 12 for a bit that is set between vertices and lengths, or lengths that do not end the input exactly.
-pub fn check_tail(input: &[u8], n_pents: usize, n_edges: usize) -> Outcome
+pub fn check_tail(input: &[u8], n_pents: usize, n_edges: usize) -> Result<(), Refusal>
     requires { (n_pents ≤ 64) × (n_edges ≤ 640) }
     ensures { result ≡ tail_check_of input.now n_pents n_edges }
 {
     let start = lengths_start(n_pents);
     if input.len() != start + 8 * n_edges {
-        return Outcome::Refused(Refusal::BadInput);
+        return Err(Refusal::BadInput);
     }
     let end = 27 + 60 * n_pents;
     if number(input, end, 8 * start - end) != 0 {
-        return Outcome::Refused(Refusal::BadInput);
+        return Err(Refusal::BadInput);
     }
-    Outcome::Done
+    Ok(())
 }
 
 // Writes the squared lengths to the front of a list.

@@ -5,21 +5,22 @@ mod bits;
 mod fields;
 
 ghost use Rattle.std.specs.Prelude.{◌≡◌, length};
-ghost use Rattle.complex.specs.Builder.{lists, lists_after, rooms_of};
+ghost use Rattle.complex.specs.Builder.{Built, lists, lists_after, rooms_of};
 ghost use Rattle.complex.specs.Check.{room_for};
+ghost use Rattle.complex.specs.Lent.{lists_in, SameLists};
 ghost use Rattle.packed_input.specs.Decoding.{complex_of, complex_check_of, given_in, with_lengths, lengths_after, Few, Decodes};
 
 use bits::number;
 use builder::from_pentachorons;
-use complex::Built;
+use complex::{AdjacencyListMut, Counts, ListsMut};
 use fields::{check_header, check_tail, read_lengths, read_vertices};
-use refusals::Outcome;
+use refusals::Refusal;
 
 // A decoded input: the counts of its complex or the refusal, the lists of the complex, and its squared lengths in the order of
 // the edges. The lists have room for 64 pentachorons; what is not written is zero.
 #[derive(Clone, Copy)]
 pub struct Decoded {
-    pub answer: Built,
+    pub answer: Result<Counts, Refusal>,
     pub pents: [u32; 320],
     pub edges: [u32; 1280],
     pub triangles: [u32; 1920],
@@ -34,77 +35,36 @@ pub struct Decoded {
 }
 
 // The input's complex: 12 or 13 for its header, then the builder's answer. A refused call leaves every list as it was.
-fn decode_complex(
-    input: &[u8],
-    pents: &mut [u32],
-    edges: &mut [u32],
-    triangles: &mut [u32],
-    tets: &mut [u32],
-    tri_to_pents_items: &mut [u32],
-    tri_to_pents_starts: &mut [u32],
-    edge_to_tris_items: &mut [u32],
-    edge_to_tris_starts: &mut [u32],
-    edge_to_pents_items: &mut [u32],
-    edge_to_pents_starts: &mut [u32],
-) -> Built
-    requires { rooms_of (lists pents.old edges.old triangles.old tets.old
-        tri_to_pents_items.old tri_to_pents_starts.old edge_to_tris_items.old edge_to_tris_starts.old
-        edge_to_pents_items.old edge_to_pents_starts.old) ≡ room_for 64 }
+fn decode_complex(input: &[u8], lists: &mut ListsMut<'_>) -> Result<Counts, Refusal>
+    requires { rooms_of (lists_in lists.old) ≡ room_for 64 }
+    ensures same { SameLists lists.old lists.new }
     ensures value { result ≡ complex_of input.now }
-    ensures lists_after { lists pents.new edges.new triangles.new tets.new
-        tri_to_pents_items.new tri_to_pents_starts.new edge_to_tris_items.new edge_to_tris_starts.new
-        edge_to_pents_items.new edge_to_pents_starts.new
-        ≡ lists_after (complex_check_of input.now) (given_in input.now)
-        (lists pents.old edges.old triangles.old tets.old
-        tri_to_pents_items.old tri_to_pents_starts.old edge_to_tris_items.old edge_to_tris_starts.old
-        edge_to_pents_items.old edge_to_pents_starts.old) }
+    ensures lists_after { lists_in lists.new ≡ lists_after (complex_check_of input.now) (given_in input.now) (lists_in lists.old) }
 {
-    match check_header(input) {
-        Outcome::Refused(refusal) => Built::Refused(refusal),
-        Outcome::Done => {
-            let mut given = [0u32; 320];
-            let n_vertices = number(input, 0, 13) as usize;
-            let n_pents = number(input, 13, 14) as usize;
-            read_vertices(input, n_pents, &mut given);
-            let len = 5 * n_pents;
-            from_pentachorons(
-                n_vertices,
-                &given[..len],
-                pents,
-                edges,
-                triangles,
-                tets,
-                tri_to_pents_items,
-                tri_to_pents_starts,
-                edge_to_tris_items,
-                edge_to_tris_starts,
-                edge_to_pents_items,
-                edge_to_pents_starts,
-            )
-        }
-    }
+    check_header(input)?;
+    let mut given = [0u32; 320];
+    let n_vertices = number(input, 0, 13) as usize;
+    let n_pents = number(input, 13, 14) as usize;
+    read_vertices(input, n_pents, &mut given);
+    from_pentachorons(n_vertices, &given[..5 * n_pents], lists)
 }
 
 // The counts of a complex, or 12 where its lengths are not all that is left of the input. A refused call leaves the list as it was.
-fn decode_lengths(input: &[u8], built: Built, sq_lengths: &mut [f64]) -> Built
+fn decode_lengths(
+    input: &[u8],
+    built: Result<Counts, Refusal>,
+    sq_lengths: &mut [f64],
+) -> Result<Counts, Refusal>
     requires { Few built (length sq_lengths.old) }
     ensures { (result ≡ with_lengths input.now built) × (sq_lengths.new ≡ lengths_after input.now result sq_lengths.old) }
 {
-    match built {
-        Built::Refused(refusal) => Built::Refused(refusal),
-        Built::Done(counts) => {
-            match check_tail(input, counts.pentachorons, counts.edges) {
-                Outcome::Refused(refusal) => Built::Refused(refusal),
-                Outcome::Done => {
-                    read_lengths(input, counts.pentachorons, counts.edges, sq_lengths);
-                    Built::Done(counts)
-                }
-            }
-        }
-    }
+    let counts = built?;
+    check_tail(input, counts.pentachorons, counts.edges)?;
+    read_lengths(input, counts.pentachorons, counts.edges, sq_lengths);
+    Ok(counts)
 }
 
-// Decodes the program's input. The checks are in 01's order: 12 for a short header, 13 for more than 64 pentachorons, 12 for
+// Decodes the program's input. The checks come in this order: 12 for a short header, 13 for more than 64 pentachorons, 12 for
 // vertices that are cut short, the builder's 1, 3 and 4, and 12 for a bit set before the lengths or lengths that do not end the
 // input exactly.
 pub fn decode(input: &[u8]) -> Decoded
@@ -125,19 +85,25 @@ pub fn decode(input: &[u8]) -> Decoded
     let mut edge_to_pents_items = [0u32; 640];
     let mut edge_to_pents_starts = [0u32; 641];
     let mut sq_lengths = [0.0; 640];
-    let built = decode_complex(
-        input,
-        &mut pents,
-        &mut edges,
-        &mut triangles,
-        &mut tets,
-        &mut tri_to_pents_items,
-        &mut tri_to_pents_starts,
-        &mut edge_to_tris_items,
-        &mut edge_to_tris_starts,
-        &mut edge_to_pents_items,
-        &mut edge_to_pents_starts,
-    );
+    let mut lists = ListsMut {
+        pents: &mut pents,
+        edges: &mut edges,
+        triangles: &mut triangles,
+        tets: &mut tets,
+        tri_to_pents: AdjacencyListMut {
+            items: &mut tri_to_pents_items,
+            starts: &mut tri_to_pents_starts,
+        },
+        edge_to_tris: AdjacencyListMut {
+            items: &mut edge_to_tris_items,
+            starts: &mut edge_to_tris_starts,
+        },
+        edge_to_pents: AdjacencyListMut {
+            items: &mut edge_to_pents_items,
+            starts: &mut edge_to_pents_starts,
+        },
+    };
+    let built = decode_complex(input, &mut lists);
     let answer = decode_lengths(input, built, &mut sq_lengths);
     Decoded {
         answer,

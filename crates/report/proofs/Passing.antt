@@ -1,8 +1,8 @@
 -- The calls over a built complex with its lengths, given room, answer. Assumes nothing.
+use Rattle.refusals.specs.Refusals.{Done}
 use Prim.Native.Nat.{ℕ}
 use mathlib.Core.Path.{◌≡◌, refl, ◌∙◌}
 use borrow.Author.Tests.{eq-eqb, le-ltb}
-use Rattle.refusals.specs.declared.Outcome.TheVariants.{Done}
 use Rattle.complex.specs.declared.Counts.{Counts}
 use Rattle.complex.specs.Builder.{Lists}
 use Rattle.calls.specs.Calls.{built_check_of, lengths_check_of, room_check_of, short_table}

@@ -1,12 +1,11 @@
 -- What the program answers for its input: signs, hinges and gradient of the complex and the lengths that it decodes to. Definitions only.
-use Rattle.std.specs.Prelude.{ℕ, ◌≤◌, ◌≡◌, true, List, [], Float, replicate}
+use Rattle.std.specs.Prelude.{ℕ, ◌≤◌, ◌≡◌, true, List, [], Float, replicate, Err, Ok}
 use Rattle.floats.specs.Ops.{zero}
 use Rattle.lists.specs.Rows.{over}
 use Rattle.length_signs.specs.declared.LengthSigns.{LengthSigns}
 use Rattle.length_signs.specs.LengthSigns.{signs_of}
 use Rattle.complex.specs.declared.Counts.{Counts}
-use Rattle.complex.specs.declared.Built.{Built}
-use Rattle.complex.specs.declared.Built.TheVariants.{Done, Refused}
+use Rattle.complex.specs.Builder.{Built}
 use Rattle.complex.specs.Builder.{Lists, sorted_pents}
 use Rattle.complex.specs.Check.{is_built}
 use Rattle.hinges.specs.declared.hinge.Hinge.{Hinge}
@@ -40,18 +39,18 @@ faces_of input = built_faces (sorted_pents (given_in input))
 
 -- its squared lengths, by the answer; none where it is refused
 abbrev pub lengths_by : List ℕ → Built → List Float
-lengths_by input (Done c) = sq_lengths_in input c.pentachorons c.edges
-lengths_by input (Refused r) = []
+lengths_by input (Ok c) = sq_lengths_in input c.pentachorons c.edges
+lengths_by input (Err r) = []
 
 -- its hinges
 abbrev pub hinges_by : List ℕ → Built → List Hinge
-hinges_by input (Done c) = hinges (faces_of input) (lengths_by input (Done c))
-hinges_by input (Refused r) = []
+hinges_by input (Ok c) = hinges (faces_of input) (lengths_by input (Ok c))
+hinges_by input (Err r) = []
 
 -- its gradient
 abbrev pub gradient_by : List ℕ → Built → List Float
-gradient_by input (Done c) = Action.gradient (faces_of input) (lengths_by input (Done c))
-gradient_by input (Refused r) = []
+gradient_by input (Ok c) = Action.gradient (faces_of input) (lengths_by input (Ok c))
+gradient_by input (Err r) = []
 
 -- the answer r, the signs s, and the lists of deficits, kinds and gradient entries, over zeros
 pub record Reports (input : List ℕ) (r : Built) (s : LengthSigns) (ds : List Float) (ks : List ℕ) (gs : List Float) : Type 0 where

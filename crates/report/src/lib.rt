@@ -5,22 +5,23 @@
 ghost use Rattle.std.specs.Prelude.{◌≡◌, true, ◌≤◌, length};
 ghost use Rattle.lists.specs.Rows.{over};
 ghost use Rattle.length_signs.specs.LengthSigns.{signs_of};
-ghost use Rattle.complex.specs.Builder.{lists};
 ghost use Rattle.complex.specs.Check.{is_built};
-ghost use Rattle.hinges.specs.Hinges.{faces_in, hinges, deficits_of, kinds_of};
+ghost use Rattle.complex.specs.Lent.{lists_of};
+ghost use Rattle.hinges.specs.Hinges.{faces_of, hinges, deficits_of, kinds_of};
 ghost use Rattle.hinges.specs.Action.{gradient};
 ghost use Rattle.report.specs.Report.{Evaluable, Evaluates, Reports};
 
-use complex::{Built, Counts};
+use complex::{AdjacencyList, Complex, Counts};
 use length_signs::{LengthSigns, length_signs};
 use lorentzian_regge::{lorentzian_deficit_angles, lorentzian_regge_action_grad};
 use packed_input::decode;
+use refusals::Refusal;
 
 // The counts of the complex or the refusal; the counts of signs; for each triangle its deficit and the byte of its kind, for each
 // edge its gradient entry. What is not written is zero, and all is where the input is refused.
 #[derive(Clone, Copy)]
 pub struct Report {
-    pub answer: Built,
+    pub answer: Result<Counts, Refusal>,
     pub signs: LengthSigns,
     pub deficits: [f64; 640],
     pub kinds: [u8; 640],
@@ -28,61 +29,20 @@ pub struct Report {
 }
 
 // The signs of a built complex's lengths, its hinges and its gradient.
-fn evaluate_built<'a>(
-    counts: Counts,
-    pents: &'a [u32],
-    edges: &'a [u32],
-    triangles: &'a [u32],
-    tets: &'a [u32],
-    tri_to_pents_items: &'a [u32],
-    tri_to_pents_starts: &'a [u32],
-    edge_to_tris_items: &'a [u32],
-    edge_to_tris_starts: &'a [u32],
-    edge_to_pents_items: &'a [u32],
-    edge_to_pents_starts: &'a [u32],
-    sq_lengths: &'a [f64],
+fn evaluate_built(
+    complex: &Complex<'_>,
+    sq_lengths: &[f64],
     deficits: &mut [f64],
     kinds: &mut [u8],
     grad: &mut [f64],
 ) -> LengthSigns
-    requires { Evaluable counts (lists pents.now edges.now triangles.now tets.now
-        tri_to_pents_items.now tri_to_pents_starts.now edge_to_tris_items.now edge_to_tris_starts.now
-        edge_to_pents_items.now edge_to_pents_starts.now)
+    requires { Evaluable complex.now.counts (lists_of complex.now)
         (length sq_lengths.now) (length deficits.old) (length kinds.old) (length grad.old) }
-    ensures { Evaluates (faces_in counts pents.now edges.now triangles.now) sq_lengths.now
+    ensures { Evaluates (faces_of complex.now) sq_lengths.now
         deficits.old kinds.old grad.old result deficits.new kinds.new grad.new }
 {
-    lorentzian_deficit_angles(
-        counts,
-        pents,
-        edges,
-        triangles,
-        tets,
-        tri_to_pents_items,
-        tri_to_pents_starts,
-        edge_to_tris_items,
-        edge_to_tris_starts,
-        edge_to_pents_items,
-        edge_to_pents_starts,
-        sq_lengths,
-        deficits,
-        kinds,
-    );
-    lorentzian_regge_action_grad(
-        counts,
-        pents,
-        edges,
-        triangles,
-        tets,
-        tri_to_pents_items,
-        tri_to_pents_starts,
-        edge_to_tris_items,
-        edge_to_tris_starts,
-        edge_to_pents_items,
-        edge_to_pents_starts,
-        sq_lengths,
-        grad,
-    );
+    let _deficits = lorentzian_deficit_angles(complex, sq_lengths, deficits, kinds);
+    let _gradient = lorentzian_regge_action_grad(complex, sq_lengths, grad);
     length_signs(sq_lengths)
 }
 
@@ -91,59 +51,44 @@ pub fn evaluate(input: &[u8]) -> Report
     ensures { Reports input.now result.answer result.signs result.deficits result.kinds result.grad }
 {
     let decoded = decode(input);
-    let answer = decoded.answer;
-    let pents = decoded.pents;
-    let edges = decoded.edges;
-    let triangles = decoded.triangles;
-    let tets = decoded.tets;
-    let tri_to_pents_items = decoded.tri_to_pents_items;
-    let tri_to_pents_starts = decoded.tri_to_pents_starts;
-    let edge_to_tris_items = decoded.edge_to_tris_items;
-    let edge_to_tris_starts = decoded.edge_to_tris_starts;
-    let edge_to_pents_items = decoded.edge_to_pents_items;
-    let edge_to_pents_starts = decoded.edge_to_pents_starts;
-    let sq_lengths = decoded.sq_lengths;
-    let mut deficits = [0.0; 640];
-    let mut kinds = [0u8; 640];
-    let mut grad = [0.0; 640];
-    match answer {
-        Built::Refused(refusal) => Report {
-            answer: Built::Refused(refusal),
-            signs: LengthSigns {
-                timelike: 0,
-                null: 0,
-                spacelike: 0,
-            },
-            deficits,
-            kinds,
-            grad,
+    let mut report = Report {
+        answer: decoded.answer,
+        signs: LengthSigns {
+            timelike: 0,
+            null: 0,
+            spacelike: 0,
         },
-        Built::Done(counts) => {
-            let n_edges = counts.edges;
-            let signs = evaluate_built(
-                counts,
-                &pents,
-                &edges,
-                &triangles,
-                &tets,
-                &tri_to_pents_items,
-                &tri_to_pents_starts,
-                &edge_to_tris_items,
-                &edge_to_tris_starts,
-                &edge_to_pents_items,
-                &edge_to_pents_starts,
-                &sq_lengths[..n_edges],
-                &mut deficits,
-                &mut kinds,
-                &mut grad,
-            );
-            Report {
-                answer: Built::Done(counts),
-                signs,
-                deficits,
-                kinds,
-                grad,
-            }
-        }
+        deficits: [0.0; 640],
+        kinds: [0; 640],
+        grad: [0.0; 640],
+    };
+    if let Ok(counts) = decoded.answer {
+        let complex = Complex {
+            counts,
+            pents: &decoded.pents,
+            edges: &decoded.edges,
+            triangles: &decoded.triangles,
+            tets: &decoded.tets,
+            tri_to_pents: AdjacencyList {
+                items: &decoded.tri_to_pents_items,
+                starts: &decoded.tri_to_pents_starts,
+            },
+            edge_to_tris: AdjacencyList {
+                items: &decoded.edge_to_tris_items,
+                starts: &decoded.edge_to_tris_starts,
+            },
+            edge_to_pents: AdjacencyList {
+                items: &decoded.edge_to_pents_items,
+                starts: &decoded.edge_to_pents_starts,
+            },
+        };
+        report.signs = evaluate_built(
+            &complex,
+            &decoded.sq_lengths[..counts.edges],
+            &mut report.deficits,
+            &mut report.kinds,
+            &mut report.grad,
+        );
     }
+    report
 }

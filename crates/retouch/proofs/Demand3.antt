@@ -1,4 +1,6 @@
 -- Demand 3: what a retouch leaves. It is proved for tables of any form, and then for the two plain lists of `retouch::retouch` and of its core from their contract. Assumes nothing.
+use Rattle.refusals.specs.Refusals.{Done, Outcome}
+use Rattle.std.specs.Prelude.{Err, Some, None}
 use Prim.Native.Nat.{ℕ, zero, suc, ◌≤◌, ◌<◌}
 use mathlib.Core.Bool.{Bool, true, false}
 use mathlib.Core.List.{List, Memᴰ}
@@ -8,8 +10,6 @@ use lib.Ieee.{Float, nan}
 use lib.ListN.{length, set, length-set}
 use lib.Seq.{get_or-set_same, get_or-set_other}
 use Rattle.refusals.specs.declared.Refusal.{Refusal}
-use Rattle.refusals.specs.declared.Outcome.{Outcome}
-use Rattle.refusals.specs.declared.Outcome.TheVariants.{Done, Refused}
 use Rattle.lists.specs.Rows.{Wide}
 use Rattle.lists.specs.Writes.{writes}
 use Rattle.lists.proofs.Tests.{Says, pass, fail, said}
@@ -23,7 +23,6 @@ use Rattle.incidence.specs.Incidence.{Simplices}
 use Rattle.comparison.proofs.BuiltComplex.{built-says, built-wide, built-simplices}
 use Rattle.lorentzian.specs.Dihedral.{kind_number}
 use Rattle.hinges.specs.declared.hinge.Hinge.{Hinge}
-use Rattle.hinges.specs.declared.hinge.KindByte.TheVariants.{Kind, NoKind}
 use Rattle.hinges.specs.Hinges.{FaceLists, faces_in, kind_in}
 use Rattle.hinges.proofs.HingeKinds.{kind-byte}
 use Rattle.calls.specs.Calls.{BuiltWith, built_check_of, lengths_check_of, room_check_of, short_table}
@@ -75,7 +74,7 @@ demand3-of {A} read F ls e x before after ok five many known others written =
 
 -- a record as a deficit and a byte is read as the record
 pub both_agree : (d : Float) (b : ℕ) (h : Hinge) → d ≡ h.deficit → b ≡ kind_number h.kind → Agree (entry_in (d, b)) (entry_of h)
-both_agree d b h ed eb = record { deficits = ed; kinds = (h.kind, ap kind_in eb ∙ kind-byte (Kind h.kind), refl) }
+both_agree d b h ed eb = record { deficits = ed; kinds = (h.kind, ap kind_in eb ∙ kind-byte (Some h.kind), refl) }
 
 -- a record agrees with itself
 pub record-agrees : (h : Hinge) → Agree (entry_of h) (entry_of h)
@@ -85,7 +84,7 @@ record-agrees h = record { deficits = refl; kinds = (h.kind, refl, refl) }
 pub no-kind-agrees : (d : Float) (b : ℕ) → (b ≡ 0 → ⊥) → (b ≡ 1 → ⊥) → (a : Entry) → Agree (entry_in (d, b)) a → ⊥
 no-kind-agrees d zero f g a w = f refl
 no-kind-agrees d (suc zero) f g a w = g refl
-no-kind-agrees d (suc (suc n)) f g a w = let e : NoKind ≡ Kind w.kinds.0 = w.kinds.1 in let z : ◌≡◌ {A = ℕ} 0 1 = cc in omega arith
+no-kind-agrees d (suc (suc n)) f g a w = let e : None ≡ Some w.kinds.0 = w.kinds.1 in let z : ◌≡◌ {A = ℕ} 0 1 = cc in omega arith
 
 -- ---- the checks
 
@@ -108,7 +107,7 @@ built-passed c l others h = go (is_built c l) refl
 
 module _ {o : Outcome} {F : FaceLists} {ls : List Float} {e : ℕ} {x : Float} {ds : List Float} {ks : List ℕ} {r : Outcome} {ls' ds' : List Float} {ks' : List ℕ} (left : Retouched o F ls e x ds ks r ls' ds' ks') where
   -- a refused call changes nothing
-  pub retouch-refused : {q : Refusal} → r ≡ Refused q → (ls' ≡ ls) × (ds' ≡ ds) × (ks' ≡ ks)
+  pub retouch-refused : {q : Refusal} → r ≡ Err q → (ls' ≡ ls) × (ds' ≡ ds) × (ks' ≡ ks)
   retouch-refused h = (left.lengths ∙ (rw h refl), left.deficits ∙ (rw h refl), left.kinds ∙ (rw h refl))
 
   -- the deficit that is written

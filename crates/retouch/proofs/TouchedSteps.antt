@@ -1,4 +1,6 @@
 -- The steps of the retouch: the triangles of the pentachorons that contain an edge are marked and listed, and its checks let it pass. Assumes nothing.
+use Rattle.refusals.specs.Refusals.{Done, Outcome}
+use Rattle.std.specs.Prelude.{Err}
 use Prim.Native.Nat.{ℕ, ◌+◌, ◌≤◌, ◌<◌}
 use mathlib.Core.Bool.{Bool, true, false, cond}
 use mathlib.Core.List.{List, [], ◌++◌}
@@ -10,8 +12,6 @@ use lib.ListN.{length, get_or, take, replicate}
 use lib.Seq.{take-suc}
 use borrow.Author.Tests.{ltb-true, ltb-false}
 use Rattle.refusals.specs.declared.Refusal.TheVariants.{EdgeTooLarge}
-use Rattle.refusals.specs.declared.Outcome.{Outcome}
-use Rattle.refusals.specs.declared.Outcome.TheVariants.{Done, Refused}
 use Rattle.lists.specs.Lists.{gather}
 use Rattle.lists.specs.Rows.{over}
 use Rattle.lists.specs.Groups.{Below}
@@ -87,7 +87,7 @@ edge-passed : (c : Counts) (e : ℕ) (others : Outcome) → edge_check_of c e ot
 unfolding edge_check_of
 edge-passed c e others h = let s = go (ltb e c.edges) h in (ltb-true e c.edges s.0, s.1)
   where
-    go : (b : Bool) → cond b others (Refused EdgeTooLarge) ≡ Done → (b ≡ true) × (others ≡ Done)
+    go : (b : Bool) → cond b others (Err EdgeTooLarge) ≡ Done → (b ≡ true) × (others ≡ Done)
     go true h = (refl, h)
     go false h = absurd (done-not-refused (sym h))
 

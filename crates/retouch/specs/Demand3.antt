@@ -1,12 +1,10 @@
 -- Demand 3: the words in which 01 speaks of tables of hinges, and what holds of a retouch that answers. Definitions only.
-use Rattle.std.specs.Prelude.{ℕ, ◌≤◌, ◌<◌, ◌≢◌, ◌↔◌, ◌≡◌, Float, length, get_or}
+use Rattle.std.specs.Prelude.{ℕ, ◌≤◌, ◌<◌, ◌≢◌, ◌↔◌, ◌≡◌, Float, length, get_or, Option, Some}
 use mathlib.Core.List.{List, [], Memᴰ}
 use Rattle.std.specs.Float.{nan}
 use Rattle.lists.specs.Lists.{Within}
 use Rattle.lorentzian.specs.declared.dihedral.HingeType.{HingeType}
 use Rattle.hinges.specs.declared.hinge.Hinge.{Hinge}
-use Rattle.hinges.specs.declared.hinge.KindByte.{KindByte}
-use Rattle.hinges.specs.declared.hinge.KindByte.TheVariants.{Kind}
 use Rattle.hinges.specs.Hinges.{FaceLists, kind_in, hinges, hinge_in}
 use Rattle.retouch.specs.Retouch.{touched}
 
@@ -15,11 +13,11 @@ use Rattle.retouch.specs.Retouch.{touched}
 -- what a table holds at a triangle: a deficit, and a kind if one stands there
 pub record Entry : Type 0 where
   pub deficit : Float
-  pub kind : KindByte
+  pub kind : (Option HingeType)
 
 -- what a record holds
 abbrev pub entry_of : Hinge → Entry
-entry_of h = record { deficit = h.deficit; kind = Kind h.kind }
+entry_of h = record { deficit = h.deficit; kind = Some h.kind }
 
 -- what a deficit and a byte hold; a byte other than 0 and 1 is no kind
 abbrev pub entry_in : Float × ℕ → Entry
@@ -32,7 +30,7 @@ both_at ds ks t = (get_or ds t nan, get_or ks t 0)
 -- 'Agree' of 01: the deficits are equal, as floats are (one NaN is another's equal, +0 and -0 differ), and the kinds are the same; where no kind stands nothing agrees
 pub record Agree (a b : Entry) : Type 0 where
   pub deficits : a.deficit ≡ b.deficit
-  pub kinds : (k : HingeType) × (a.kind ≡ Kind k) × (b.kind ≡ Kind k)
+  pub kinds : (k : HingeType) × (a.kind ≡ Some k) × (b.kind ≡ Some k)
 
 -- the table worked out anew from a length list: what `lorentzian_deficit_angles` answers
 abbrev pub worked_out : FaceLists → List Float → ℕ → Entry

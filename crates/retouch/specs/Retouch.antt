@@ -1,8 +1,7 @@
 -- The retouch: one squared length is changed and the table of hinges brought up to date. When it is refused, what it answers, and what it leaves in the lent lists. Definitions only.
-use Rattle.std.specs.Prelude.{ℕ, cond, List, [], ◌≡◌, ltb, Float, length, get_or, set}
+use Rattle.refusals.specs.Refusals.{Done, Outcome}
+use Rattle.std.specs.Prelude.{ℕ, cond, List, [], ◌≡◌, ltb, Float, length, get_or, set, Err, Ok}
 use Rattle.refusals.specs.declared.Refusal.TheVariants.{EdgeTooLarge}
-use Rattle.refusals.specs.declared.Outcome.{Outcome}
-use Rattle.refusals.specs.declared.Outcome.TheVariants.{Done, Refused}
 use Rattle.lists.specs.Lists.{gather}
 use Rattle.lists.specs.Writes.{writes}
 use Rattle.complex.specs.declared.Counts.{Counts}
@@ -30,14 +29,14 @@ anew F ls e x t = hinge_in (hinges F (set ls e x)) t
 
 -- 9 where there is no edge of that number, then what the other checks say
 unfoldable pub edge_check_of : Counts → ℕ → Outcome → Outcome
-edge_check_of c e others = cond (ltb e c.edges) others (Refused EdgeTooLarge)
+edge_check_of c e others = cond (ltb e c.edges) others (Err EdgeTooLarge)
 
 -- ---- lent lists
 
 -- a list after a call, by its outcome: as it was where the call is refused
 abbrev pub after : {A : Type 0} → Outcome → List A → List A → List A
-after Done new old = new
-after (Refused r) new old = old
+after (Ok u) new old = new
+after (Err r) new old = old
 
 -- 'Retouch' of 01: the new length stands at its edge, and each triangle of each pentachoron that contains the edge is worked out anew.
 -- The answer r of checks that say o, and the lists of lengths, deficits and kinds after the call

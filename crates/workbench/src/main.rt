@@ -4,7 +4,7 @@
 
 ghost use Rattle.std.specs.Prelude.{◌≤◌, length};
 
-use complex::{Built, Counts};
+use complex::Counts;
 use length_signs::LengthSigns;
 use printing::{print_double, print_end, print_named, print_number, read_full};
 use refusals::Refusal;
@@ -80,8 +80,8 @@ fn main(rt: HostRuntime) -> Result<()> {
     let kinds = report.kinds;
     let grad = report.grad;
     match answer {
-        Built::Refused(refusal) => print_refusal(&rt, refusal),
-        Built::Done(counts) => {
+        Err(refusal) => print_refusal(&rt, refusal),
+        Ok(counts) => {
             print_counts(&rt, counts)?;
             print_signs(&rt, report.signs)?;
             let n_tris = counts.triangles;

@@ -1,7 +1,7 @@
 -- `builder::from_pentachorons` meets its contract. Assumes nothing.
+use Rattle.std.specs.Prelude.{Err, Ok}
 use mathlib.Core.Path.{refl, sym, ap, ◌∙◌}
 use Rattle.complex.specs.Builder.{lists, rooms_of}
-use Rattle.complex.specs.declared.Built.TheVariants.{Done}
 use Rattle.complex.proofs.Offences.{passed}
 use Rattle.builder.proofs.from_pentachorons.Goals as goal
 
@@ -9,17 +9,17 @@ pub build-requires : goal.build-requires
 unfolding rooms_of
 build-requires c =
     let a = c.args in
-    passed a.n_vertices a.given.now (lists a.pents.now a.edges.now a.triangles.now a.tets.now a.tri_to_pents_items.now a.tri_to_pents_starts.now a.edge_to_tris_items.now a.edge_to_tris_starts.now a.edge_to_pents_items.now a.edge_to_pents_starts.now) (sym c.check.ensures ∙ c.in-Done.is)
+    passed a.n_vertices a.given.now (lists a.pents.now a.edges.now a.triangles.now a.tets.now a.tri_to_pents_items.now a.tri_to_pents_starts.now a.edge_to_tris_items.now a.edge_to_tris_starts.now a.edge_to_pents_items.now a.edge_to_pents_starts.now) (sym c.check.ensures ∙ c.in-Ok.is)
 
-pub returns-in-Refused : goal.returns-in-Refused
+pub returns-in-Err : goal.returns-in-Err
 unfolding rooms_of
-returns-in-Refused c =
-    let e = sym c.check.ensures ∙ c.in-Refused.is in
+returns-in-Err c =
+    let e = sym c.check.ensures ∙ c.in-Err.is in
     record { answered = rw e refl; left = rw e refl }
 
-pub returns-in-Done : goal.returns-in-Done
+pub returns-in-Ok : goal.returns-in-Ok
 unfolding rooms_of
-returns-in-Done c =
+returns-in-Ok c =
     let b = c.build in
-    let e = sym c.check.ensures ∙ c.in-Done.is in
-    record { answered = rw e (ap Done b.ensures.value); left = rw e b.ensures.lists_after }
+    let e = sym c.check.ensures ∙ c.in-Ok.is in
+    record { answered = rw e (ap Ok b.ensures.value); left = rw e b.ensures.lists_after }

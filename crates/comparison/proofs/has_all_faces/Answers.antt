@@ -11,7 +11,7 @@ unfolding has_all_faces
 returns-then-not-has_faces c = let a = c.args in
     record {
       value = rw (sym c.has_faces.ensures.value ∙ c.if-not-has_faces.true) refl;
-      noting = record { edges = λ t. absurd (not-both t refl); triangles = λ t. absurd (not-both t refl); edges_kept = refl; triangles_kept = faces-kept a.pents.now Tet a.pent_tris.now c.has_faces.new.numbers c.has_faces.ensures.numbers_after.1 };
+      noting = record { edges = λ t. absurd (not-both t refl); triangles = λ t. absurd (not-both t refl); edges_kept = refl; triangles_kept = faces-kept a.complex.now.pents.now Tet a.pent_tris.now c.has_faces.new.numbers c.has_faces.ensures.numbers_after.1 };
     }
 
 pub returns-then-not-has_faces-2 : goal.returns-then-not-has_faces-2
@@ -19,18 +19,18 @@ unfolding has_all_faces
 returns-then-not-has_faces-2 c = let a = c.args in
     record {
       value = rw (sym c.has_faces.ensures.value ∙ c.if-not-has_faces.false, sym c.has_faces-2.ensures.value ∙ c.if-not-has_faces-2.true) refl;
-      noting = record { edges = λ t. absurd (not-both t refl); triangles = λ t. absurd (not-both t refl); edges_kept = faces-kept a.pents.now Edge a.pent_edges.now c.has_faces-2.new.numbers c.has_faces-2.ensures.numbers_after.1; triangles_kept = faces-kept a.pents.now Tet a.pent_tris.now c.has_faces.new.numbers c.has_faces.ensures.numbers_after.1 };
+      noting = record { edges = λ t. absurd (not-both t refl); triangles = λ t. absurd (not-both t refl); edges_kept = faces-kept a.complex.now.pents.now Edge a.pent_edges.now c.has_faces-2.new.numbers c.has_faces-2.ensures.numbers_after.1; triangles_kept = faces-kept a.complex.now.pents.now Tet a.pent_tris.now c.has_faces.new.numbers c.has_faces.ensures.numbers_after.1 };
     }
 
 pub returns : goal.returns
 unfolding has_all_faces
 returns c = let a = c.args in
-    let tets = faces-kept a.pents.now Tet a.pent_tris.now c.has_faces.new.numbers c.has_faces.ensures.numbers_after.1 in record {
+    let tets = faces-kept a.complex.now.pents.now Tet a.pent_tris.now c.has_faces.new.numbers c.has_faces.ensures.numbers_after.1 in record {
       value = rw (sym c.has_faces.ensures.value ∙ c.if-not-has_faces.false, sym c.has_faces-2.ensures.value ∙ c.if-not-has_faces-2.false) c.has_faces-3.ensures.value;
       noting = record {
         edges = λ t. c.has_faces-2.ensures.numbers_after.0 c.if-not-has_faces-2.false;
-        triangles = λ t. triangles-over a.pents.now a.pent_tris.now c.has_faces.new.numbers c.has_faces-3.new.numbers tets (c.has_faces-3.ensures.numbers_after.0 t);
-        edges_kept = faces-kept a.pents.now Edge a.pent_edges.now c.has_faces-2.new.numbers c.has_faces-2.ensures.numbers_after.1;
-        triangles_kept = faces-kept a.pents.now Triangle c.has_faces.new.numbers c.has_faces-3.new.numbers c.has_faces-3.ensures.numbers_after.1 ∙ tets;
+        triangles = λ t. triangles-over a.complex.now.pents.now a.pent_tris.now c.has_faces.new.numbers c.has_faces-3.new.numbers tets (c.has_faces-3.ensures.numbers_after.0 t);
+        edges_kept = faces-kept a.complex.now.pents.now Edge a.pent_edges.now c.has_faces-2.new.numbers c.has_faces-2.ensures.numbers_after.1;
+        triangles_kept = faces-kept a.complex.now.pents.now Triangle c.has_faces.new.numbers c.has_faces-3.new.numbers c.has_faces-3.ensures.numbers_after.1 ∙ tets;
       };
     }

@@ -26,12 +26,12 @@ unfolding has_pents
 returns-then-pents-len c = rw (ne_eqb _ _ c.if-counts-eq0.false, le-leb _ _ c.if-counts-gt4096.false, le-leb _ _ c.if-counts-gt8192.false, lt-leb _ _ c.if-pents-len.true) refl
 
 pub slice_bounds-all_rise-end : goal.slice_bounds-all_rise-end
-slice_bounds-all_rise-end c = sym (length-take-le (5 * c.args.counts.pentachorons) c.args.pents.now (omega arith))
+slice_bounds-all_rise-end c = sym (length-take-le (5 * c.args.complex.now.counts.pentachorons) c.args.complex.now.pents.now (omega arith))
 
 pub returns : goal.returns
 unfolding has_pents
 returns c = let a = c.args in
-    let n = a.counts.pentachorons in
-    let long : length (take (5 * n) a.pents.now) ≡ 5 * n = length-take-le (5 * n) a.pents.now c.if-pents-len.false in
-    let many : length (take (5 * n) a.pents.now) / 5 ≡ n = omega (arith, long) in
-    rw (ne_eqb _ _ c.if-counts-eq0.false, le-leb _ _ c.if-counts-gt4096.false, le-leb _ _ c.if-counts-gt8192.false, le-leb _ _ c.if-pents-len.false) (rw (rows_take 5 n (5 * n) a.pents.now (omega arith) c.if-pents-len.false) at (rw many at c.all_rise.ensures))
+    let n = a.complex.now.counts.pentachorons in
+    let long : length (take (5 * n) a.complex.now.pents.now) ≡ 5 * n = length-take-le (5 * n) a.complex.now.pents.now c.if-pents-len.false in
+    let many : length (take (5 * n) a.complex.now.pents.now) / 5 ≡ n = omega (arith, long) in
+    rw (ne_eqb _ _ c.if-counts-eq0.false, le-leb _ _ c.if-counts-gt4096.false, le-leb _ _ c.if-counts-gt8192.false, le-leb _ _ c.if-pents-len.false) (rw (rows_take 5 n (5 * n) a.complex.now.pents.now (omega arith) c.if-pents-len.false) at (rw many at c.all_rise.ensures))

@@ -1,6 +1,6 @@
 -- `exports::cjapthumi_from_pentachorons` meets its contract. Assumes nothing.
+use Rattle.refusals.specs.Refusals.{value_or}
 use mathlib.Core.Path.{◌∙◌}
-use Rattle.complex.specs.Builder.{counts_or}
 use Rattle.boundary.specs.Counts.{counts_list}
 use Rattle.exports.proofs.cjapthumi_from_pentachorons.Goals as goal
 
@@ -12,5 +12,5 @@ returns c =
       builds = b.ensures;
       numbered = c.number.ensures;
       placed = c.place.ensures;
-      counted = c.counts_list.ensures ∙ (λ i. counts_list (c.counts_or.ensures i)) ∙ (λ i. counts_list (counts_or b.result (c.counts_of.ensures i)));
+      counted = c.counts_list.ensures ∙ (λ i. counts_list (c.counts_or.ensures i)) ∙ (λ i. counts_list (value_or b.result (c.counts_of.ensures i)));
     }

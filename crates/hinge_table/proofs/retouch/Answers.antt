@@ -1,5 +1,5 @@
 -- `hinge_table::retouch` meets its contract. Assumes nothing.
-use Rattle.hinges.specs.Hinges.{faces_in}
+use Rattle.hinges.specs.Hinges.{faces_of}
 use Rattle.hinge_table.proofs.TableSteps.{table-retouched}
 use Rattle.hinge_table.proofs.retouch.Goals as goal
 
@@ -10,4 +10,4 @@ pub returns : goal.returns
 returns c =
     let a = c.args in
     let b = c.begin_retouch-answer in
-    rw c.outcome_of.ensures (table-retouched (faces_in a.counts a.pents.now a.edges.now a.triangles.now) a.sq_lengths.now a.edge.0 a.sq_length a.table.now b.new.sq_lengths c.write_records.new.table b.ensures.1 b.ensures.0 (rw c.count_or.ensures at c.write_records.ensures))
+    rw c.outcome_of.ensures (table-retouched (faces_of a.complex.now) a.sq_lengths.now a.edge.0 a.sq_length a.table.now b.new.sq_lengths c.write_records.new.table b.ensures.1 b.ensures.0 (rw c.count_or.ensures at c.write_records.ensures))

@@ -7,7 +7,7 @@ use lib.ListN.{get_or, set, take, length-set}
 use Rattle.lists.specs.Writes.{writes}
 use Rattle.lists.proofs.Writes.{writes-next}
 use Rattle.hinges.specs.declared.hinge.Hinge.{Hinge}
-use Rattle.hinges.specs.Hinges.{faces_in, hinges, hinge_in}
+use Rattle.hinges.specs.Hinges.{hinges, hinge_in, faces_of}
 use Rattle.hinge_table.proofs.write_records.Goals as goal
 
 pub loop-k-init : goal.loop-k-init
@@ -28,7 +28,7 @@ pub loop-k-preserved : goal.loop-k-preserved
 loop-k-preserved c =
     let a = c.args in
     let l = c.loop-k in
-    let T = hinges (faces_in a.counts a.pents.now a.edges.now a.triangles.now) a.sq_lengths.now in
+    let T = hinges (faces_of a.complex.now) a.sq_lengths.now in
     let t = get_or a.tris.now l.k 0 in (
       omega (arith, c.loop-k-test.true),
       length-set l.table _ _ ∙ l.invariant.1,
@@ -42,6 +42,6 @@ pub returns : goal.returns
 returns c =
     let a = c.args in
     let l = c.loop-k in
-    let T = hinges (faces_in a.counts a.pents.now a.edges.now a.triangles.now) a.sq_lengths.now in
+    let T = hinges (faces_of a.complex.now) a.sq_lengths.now in
     let e : l.k ≡ a.count = omega arith in
     l.invariant.2 ∙ ap (λ (n : ℕ). writes (hinge_in T) (take n a.tris.now) a.table.now) e

@@ -11,7 +11,7 @@ pub local_index-q-requires : goal.local_index-q-requires
 local_index-q-requires c =
     let a = c.args in
     let r = c.requires in
-    own-triangle a.counts.pentachorons a.counts.triangles a.pents.now a.triangles.now r.0 r.1.room a.pent.0 a.tri.0 r.2 r.3 c.pent_tri_indices-tris.result.now c.pent_tri_indices-tris.ensures
+    own-triangle a.complex.now.counts.pentachorons a.complex.now.counts.triangles a.complex.now.pents.now a.complex.now.triangles.now r.0 r.1.room a.pent.0 a.tri.0 r.2 r.3 c.pent_tri_indices-tris.result.now c.pent_tri_indices-tris.ensures
     (said (within-says _ _) r.4)
 
 q-below : (c : After-local_index-q) → c.local_index-q.result < 10
@@ -19,7 +19,7 @@ q-below c =
     let a = c.args in
     let r = c.requires in
     let l = c.local_index-q in
-    below-ten a.counts.pentachorons a.counts.triangles a.pents.now a.triangles.now r.0 r.1.room a.pent.0 a.tri.0 r.2 r.3 c.pent_tri_indices-tris.result.now c.pent_tri_indices-tris.ensures
+    below-ten a.complex.now.counts.pentachorons a.complex.now.counts.triangles a.complex.now.pents.now a.complex.now.triangles.now r.0 r.1.room a.pent.0 a.tri.0 r.2 r.3 c.pent_tri_indices-tris.result.now c.pent_tri_indices-tris.ensures
     l.result l.ensures.0 l.ensures.1
 
 pub bounds-q : goal.bounds-q
@@ -39,5 +39,5 @@ returns c =
     let a = c.args in
     let r = c.requires in
     let l = c.local_index-q in
-    opposite-own a.counts.pentachorons a.counts.triangles a.pents.now a.triangles.now r.0 r.1.room a.pent.0 a.tri.0 r.2 r.3 c.pent_tri_indices-tris.result.now c.pent_tri_indices-tris.ensures
+    opposite-own a.complex.now.counts.pentachorons a.complex.now.counts.triangles a.complex.now.pents.now a.complex.now.triangles.now r.0 r.1.room a.pent.0 a.tri.0 r.2 r.3 c.pent_tri_indices-tris.result.now c.pent_tri_indices-tris.ensures
     l.result l.ensures.0 l.ensures.1

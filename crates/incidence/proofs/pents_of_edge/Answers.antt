@@ -7,10 +7,10 @@ use Rattle.incidence.proofs.pents_of_edge.Goals as goal
 pub part-requires : goal.part-requires
 part-requires c =
     let a = c.args in
-    holders-fit (rows 5 a.counts.pentachorons a.pents.now) 2 a.counts.edges a.edges.now a.edge_to_pents_items.now a.edge_to_pents_starts.now c.requires.0 a.edge.0 c.requires.1
+    holders-fit (rows 5 a.complex.now.counts.pentachorons a.complex.now.pents.now) 2 a.complex.now.counts.edges a.complex.now.edges.now a.complex.now.edge_to_pents.items.now a.complex.now.edge_to_pents.starts.now c.requires.0 a.edge.0 c.requires.1
 
 pub returns : goal.returns
 returns c =
     let a = c.args in
     c.part.ensures
-    ∙ holders-are (rows 5 a.counts.pentachorons a.pents.now) 2 a.counts.edges a.edges.now a.edge_to_pents_items.now a.edge_to_pents_starts.now c.requires.0 a.edge.0 c.requires.1
+    ∙ holders-are (rows 5 a.complex.now.counts.pentachorons a.complex.now.pents.now) 2 a.complex.now.counts.edges a.complex.now.edges.now a.complex.now.edge_to_pents.items.now a.complex.now.edge_to_pents.starts.now c.requires.0 a.edge.0 c.requires.1

@@ -7,10 +7,10 @@ use Rattle.incidence.proofs.pents_of_triangle.Goals as goal
 pub part-requires : goal.part-requires
 part-requires c =
     let a = c.args in
-    holders-fit (rows 5 a.counts.pentachorons a.pents.now) 3 a.counts.triangles a.triangles.now a.tri_to_pents_items.now a.tri_to_pents_starts.now c.requires.0 a.tri.0 c.requires.1
+    holders-fit (rows 5 a.complex.now.counts.pentachorons a.complex.now.pents.now) 3 a.complex.now.counts.triangles a.complex.now.triangles.now a.complex.now.tri_to_pents.items.now a.complex.now.tri_to_pents.starts.now c.requires.0 a.tri.0 c.requires.1
 
 pub returns : goal.returns
 returns c =
     let a = c.args in
     c.part.ensures
-    ∙ holders-are (rows 5 a.counts.pentachorons a.pents.now) 3 a.counts.triangles a.triangles.now a.tri_to_pents_items.now a.tri_to_pents_starts.now c.requires.0 a.tri.0 c.requires.1
+    ∙ holders-are (rows 5 a.complex.now.counts.pentachorons a.complex.now.pents.now) 3 a.complex.now.counts.triangles a.complex.now.triangles.now a.complex.now.tri_to_pents.items.now a.complex.now.tri_to_pents.starts.now c.requires.0 a.tri.0 c.requires.1

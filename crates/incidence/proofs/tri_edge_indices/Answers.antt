@@ -10,7 +10,7 @@ bounds-holders-0 c =
     let a = c.args in
     let r = c.requires in
     let hs = c.pents_of_triangle-holders in
-    let f = first_holder a.counts.pentachorons a.counts.triangles a.pents.now a.triangles.now r.1 a.tri.0 r.5 hs.result.now hs.ensures in
+    let f = first_holder a.complex.now.counts.pentachorons a.complex.now.counts.triangles a.complex.now.pents.now a.complex.now.triangles.now r.1 a.tri.0 r.5 hs.result.now hs.ensures in
     f.0
 
 pub pent_tri_indices-tris-requires : goal.pent_tri_indices-tris-requires
@@ -18,7 +18,7 @@ pent_tri_indices-tris-requires c =
     let a = c.args in
     let r = c.requires in
     let hs = c.pents_of_triangle-holders in
-    let f = first_holder a.counts.pentachorons a.counts.triangles a.pents.now a.triangles.now r.1 a.tri.0 r.5 hs.result.now hs.ensures in
+    let f = first_holder a.complex.now.counts.pentachorons a.complex.now.counts.triangles a.complex.now.pents.now a.complex.now.triangles.now r.1 a.tri.0 r.5 hs.result.now hs.ensures in
     (r.4, f.1)
 
 pub pent_edge_indices-own-requires : goal.pent_edge_indices-own-requires
@@ -26,7 +26,7 @@ pent_edge_indices-own-requires c =
     let a = c.args in
     let r = c.requires in
     let hs = c.pents_of_triangle-holders in
-    let f = first_holder a.counts.pentachorons a.counts.triangles a.pents.now a.triangles.now r.1 a.tri.0 r.5 hs.result.now hs.ensures in
+    let f = first_holder a.complex.now.counts.pentachorons a.complex.now.counts.triangles a.complex.now.pents.now a.complex.now.triangles.now r.1 a.tri.0 r.5 hs.result.now hs.ensures in
     (r.3, f.1)
 
 pub local_index-requires : goal.local_index-requires
@@ -34,8 +34,8 @@ local_index-requires c =
     let a = c.args in
     let r = c.requires in
     let hs = c.pents_of_triangle-holders in
-    let f = first_holder a.counts.pentachorons a.counts.triangles a.pents.now a.triangles.now r.1 a.tri.0 r.5 hs.result.now hs.ensures in
-    own-triangle a.counts.pentachorons a.counts.triangles a.pents.now a.triangles.now r.0 r.4.room (get_or hs.result.now 0 0) a.tri.0 f.1 r.5 c.pent_tri_indices-tris.result.now c.pent_tri_indices-tris.ensures
+    let f = first_holder a.complex.now.counts.pentachorons a.complex.now.counts.triangles a.complex.now.pents.now a.complex.now.triangles.now r.1 a.tri.0 r.5 hs.result.now hs.ensures in
+    own-triangle a.complex.now.counts.pentachorons a.complex.now.counts.triangles a.complex.now.pents.now a.complex.now.triangles.now r.0 r.4.room (get_or hs.result.now 0 0) a.tri.0 f.1 r.5 c.pent_tri_indices-tris.result.now c.pent_tri_indices-tris.ensures
     f.2
 
 pub edges_at-requires : goal.edges_at-requires
@@ -43,12 +43,12 @@ edges_at-requires c =
     let a = c.args in
     let r = c.requires in
     let hs = c.pents_of_triangle-holders in
-    let f = first_holder a.counts.pentachorons a.counts.triangles a.pents.now a.triangles.now r.1 a.tri.0 r.5 hs.result.now hs.ensures in
+    let f = first_holder a.complex.now.counts.pentachorons a.complex.now.counts.triangles a.complex.now.pents.now a.complex.now.triangles.now r.1 a.tri.0 r.5 hs.result.now hs.ensures in
     let l = c.local_index in
     let e = c.pent_edge_indices-own in (
-      ten-own a.counts.pentachorons a.counts.triangles a.pents.now a.triangles.now r.0 r.4.room (get_or hs.result.now 0 0) a.tri.0 f.1 r.5 c.pent_tri_indices-tris.result.now c.pent_tri_indices-tris.ensures
-          (rows 2 a.counts.edges a.edges.now) e.result.now e.ensures,
-      below-ten a.counts.pentachorons a.counts.triangles a.pents.now a.triangles.now r.0 r.4.room (get_or hs.result.now 0 0) a.tri.0 f.1 r.5 c.pent_tri_indices-tris.result.now c.pent_tri_indices-tris.ensures
+      ten-own a.complex.now.counts.pentachorons a.complex.now.counts.triangles a.complex.now.pents.now a.complex.now.triangles.now r.0 r.4.room (get_or hs.result.now 0 0) a.tri.0 f.1 r.5 c.pent_tri_indices-tris.result.now c.pent_tri_indices-tris.ensures
+          (rows 2 a.complex.now.counts.edges a.complex.now.edges.now) e.result.now e.ensures,
+      below-ten a.complex.now.counts.pentachorons a.complex.now.counts.triangles a.complex.now.pents.now a.complex.now.triangles.now r.0 r.4.room (get_or hs.result.now 0 0) a.tri.0 f.1 r.5 c.pent_tri_indices-tris.result.now c.pent_tri_indices-tris.ensures
           l.result l.ensures.0 l.ensures.1,
     )
 
@@ -57,9 +57,9 @@ returns c =
     let a = c.args in
     let r = c.requires in
     let hs = c.pents_of_triangle-holders in
-    let f = first_holder a.counts.pentachorons a.counts.triangles a.pents.now a.triangles.now r.1 a.tri.0 r.5 hs.result.now hs.ensures in
+    let f = first_holder a.complex.now.counts.pentachorons a.complex.now.counts.triangles a.complex.now.pents.now a.complex.now.triangles.now r.1 a.tri.0 r.5 hs.result.now hs.ensures in
     let l = c.local_index in
     let e = c.pent_edge_indices-own in
     c.edges_at.ensures
-    ∙ edges-own a.counts.pentachorons a.counts.triangles a.pents.now a.triangles.now r.0 r.4.room (get_or hs.result.now 0 0) a.tri.0 f.1 r.5 c.pent_tri_indices-tris.result.now c.pent_tri_indices-tris.ensures
-    l.result l.ensures.0 l.ensures.1 (rows 2 a.counts.edges a.edges.now) e.result.now e.ensures
+    ∙ edges-own a.complex.now.counts.pentachorons a.complex.now.counts.triangles a.complex.now.pents.now a.complex.now.triangles.now r.0 r.4.room (get_or hs.result.now 0 0) a.tri.0 f.1 r.5 c.pent_tri_indices-tris.result.now c.pent_tri_indices-tris.ensures
+    l.result l.ensures.0 l.ensures.1 (rows 2 a.complex.now.counts.edges a.complex.now.edges.now) e.result.now e.ensures

@@ -7,10 +7,10 @@ use Rattle.incidence.proofs.tris_of_edge.Goals as goal
 pub part-requires : goal.part-requires
 part-requires c =
     let a = c.args in
-    holders-fit (rows 3 a.counts.triangles a.triangles.now) 2 a.counts.edges a.edges.now a.edge_to_tris_items.now a.edge_to_tris_starts.now c.requires.0 a.edge.0 c.requires.1
+    holders-fit (rows 3 a.complex.now.counts.triangles a.complex.now.triangles.now) 2 a.complex.now.counts.edges a.complex.now.edges.now a.complex.now.edge_to_tris.items.now a.complex.now.edge_to_tris.starts.now c.requires.0 a.edge.0 c.requires.1
 
 pub returns : goal.returns
 returns c =
     let a = c.args in
     c.part.ensures
-    ∙ holders-are (rows 3 a.counts.triangles a.triangles.now) 2 a.counts.edges a.edges.now a.edge_to_tris_items.now a.edge_to_tris_starts.now c.requires.0 a.edge.0 c.requires.1
+    ∙ holders-are (rows 3 a.complex.now.counts.triangles a.complex.now.triangles.now) 2 a.complex.now.counts.edges a.complex.now.edges.now a.complex.now.edge_to_tris.items.now a.complex.now.edge_to_tris.starts.now c.requires.0 a.edge.0 c.requires.1

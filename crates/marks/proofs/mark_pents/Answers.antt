@@ -6,7 +6,7 @@ use lib.ListN.{length, get_or, take}
 use lib.Seq.{take_all}
 use Rattle.lists.specs.Lists.{gather}
 use Rattle.lists.proofs.Rows.{length-rows}
-use Rattle.complex.specs.Check.{edges_in, pents_in}
+use Rattle.complex.specs.Lent.{pents_of, edges_of}
 use Rattle.marks.specs.Marks.{met, marked}
 use Rattle.marks.proofs.Marking.{marked_append, met_next, holding-below}
 use Rattle.marks.proofs.mark_pents.Goals as goal
@@ -22,15 +22,15 @@ pub mark_all-requires : goal.mark_all-requires
 mark_all-requires c =
     let a = c.args in
     let l = c.loop-k in
-    holding-below (pents_in a.counts a.pents.now) (get_or (edges_in a.counts a.edges.now) (get_or a.free_edges.now l.k 0) []) c.pents_of_edge-own.result.now c.pents_of_edge-own.ensures (length l.marks) (omega (arith, length-rows 5 a.counts.pentachorons a.pents.now, c.requires.2, l.invariant.1))
+    holding-below (pents_of a.complex.now) (get_or (edges_of a.complex.now) (get_or a.free_edges.now l.k 0) []) c.pents_of_edge-own.result.now c.pents_of_edge-own.ensures (length l.marks) (omega (arith, length-rows 5 a.complex.now.counts.pentachorons a.complex.now.pents.now, c.requires.2, l.invariant.1))
 
 pub loop-k-preserved : goal.loop-k-preserved
 loop-k-preserved c =
     let a = c.args in
     let l = c.loop-k in
     let f = c.mark_all in
-    let R = pents_in a.counts a.pents.now in
-    let E = edges_in a.counts a.edges.now in (
+    let R = pents_of a.complex.now in
+    let E = edges_of a.complex.now in (
       omega arith,
       f.auto.marks ∙ l.invariant.1,
       f.ensures
@@ -45,4 +45,4 @@ pub returns : goal.returns
 returns c =
     let l = c.loop-k in
     let a = c.args in
-    l.invariant.2 ∙ ap (λ xs. marked (met (pents_in a.counts a.pents.now) (edges_in a.counts a.edges.now) xs) a.marks.now) (take_all l.k a.free_edges.now (omega arith))
+    l.invariant.2 ∙ ap (λ xs. marked (met (pents_of a.complex.now) (edges_of a.complex.now) xs) a.marks.now) (take_all l.k a.free_edges.now (omega arith))

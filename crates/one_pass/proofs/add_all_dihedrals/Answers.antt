@@ -9,8 +9,8 @@ use lib.Ieee.{nan}
 use Rattle.lists.specs.Lists.{gather}
 use Rattle.lists.specs.Loops.{scatter}
 use Rattle.lists.proofs.Rows.{length-rows}
-use Rattle.complex.specs.Check.{pents_in}
-use Rattle.hinges.specs.Hinges.{FaceLists, faces_in, plus, dihedrals, pass_dihedrals, lengths_at}
+use Rattle.complex.specs.Lent.{pents_of}
+use Rattle.hinges.specs.Hinges.{FaceLists, plus, dihedrals, pass_dihedrals, lengths_at, faces_of}
 use Rattle.hinges.proofs.PentachoronSteps.{pent-five, own-edges, own-triangles}
 use Rattle.one_pass.specs.Pass.{byte_of_first, ten_events}
 use Rattle.one_pass.proofs.PassSteps.{ten_events_lem, pass-turn}
@@ -30,14 +30,14 @@ pent_tri_indices-tris-requires c = (c.requires.0.tri_numbers, c.loop-p-test.true
 pub pent_sq_lengths-s-requires : goal.pent_sq_lengths-s-requires
 pent_sq_lengths-s-requires c =
     let a = c.args in
-    own-edges a.counts a.pents.now a.edges.now a.triangles.now a.pent_edges.now a.pent_tris.now (length a.sq_lengths.now) c.requires.0 c.loop-p.p c.loop-p-test.true c.pent_edge_indices-own.result.now c.pent_edge_indices-own.ensures
+    own-edges a.complex.now.counts a.complex.now.pents.now a.complex.now.edges.now a.complex.now.triangles.now a.incidence.now.pent_edges.now a.incidence.now.pent_tris.now (length a.sq_lengths.now) c.requires.0 c.loop-p.p c.loop-p-test.true c.pent_edge_indices-own.result.now c.pent_edge_indices-own.ensures
 
 pub add_ten-requires : goal.add_ten-requires
 add_ten-requires c =
     let a = c.args in
     let r = c.requires in
     let l = c.loop-p in
-    let o = own-triangles a.counts a.pents.now a.edges.now a.triangles.now a.pent_edges.now a.pent_tris.now (length a.sq_lengths.now) r.0 l.p c.loop-p-test.true c.pent_tri_indices-tris.result.now c.pent_tri_indices-tris.ensures in
+    let o = own-triangles a.complex.now.counts a.complex.now.pents.now a.complex.now.edges.now a.complex.now.triangles.now a.incidence.now.pent_edges.now a.incidence.now.pent_tris.now (length a.sq_lengths.now) r.0 l.p c.loop-p-test.true c.pent_tri_indices-tris.result.now c.pent_tri_indices-tris.ensures in
     (o.0, o.1 (length l.sums) (omega (arith, r.1, l.invariant.1)), o.1 (length l.kinds) (omega (arith, r.2, l.invariant.2)))
 
 pub overflow_add-p : goal.overflow_add-p
@@ -50,12 +50,12 @@ loop-p-preserved c =
     let l = c.loop-p in
     let f = c.add_ten in
     let s = c.pent_sq_lengths-s in
-    let F : FaceLists = faces_in a.counts a.pents.now a.edges.now a.triangles.now in
-    let p = get_or (pents_in a.counts a.pents.now) l.p [] in
+    let F : FaceLists = faces_of a.complex.now in
+    let p = get_or (pents_of a.complex.now) l.p [] in
     let h = c.loop-p-test.true in
-    let in_list : l.p < length (pents_in a.counts a.pents.now) = rw (length-rows 5 a.counts.pentachorons a.pents.now) h in
+    let in_list : l.p < length (pents_of a.complex.now) = rw (length-rows 5 a.complex.now.counts.pentachorons a.complex.now.pents.now) h in
     let e : ten_events c.pent_tri_indices-tris.result.now c.ten_dihedrals.result ≡ dihedrals F a.sq_lengths.now p =
-    ten_events_lem F a.sq_lengths.now s.result p c.pent_tri_indices-tris.result.now c.ten_dihedrals.result (pent-five a.counts a.pents.now a.edges.now a.triangles.now a.pent_edges.now a.pent_tris.now (length a.sq_lengths.now) r l.p h) c.pent_tri_indices-tris.ensures
+    ten_events_lem F a.sq_lengths.now s.result p c.pent_tri_indices-tris.result.now c.ten_dihedrals.result (pent-five a.complex.now.counts a.complex.now.pents.now a.complex.now.edges.now a.complex.now.triangles.now a.incidence.now.pent_edges.now a.incidence.now.pent_tris.now (length a.sq_lengths.now) r l.p h) c.pent_tri_indices-tris.ensures
     (s.ensures ∙ ap (lengths_at a.sq_lengths.now) c.pent_edge_indices-own.ensures) c.ten_dihedrals.ensures in (
       omega arith,
       f.auto.sums ∙ l.invariant.1,
@@ -75,6 +75,6 @@ unfolding pass_dihedrals
 returns c =
     let a = c.args in
     let l = c.loop-p in
-    let F : FaceLists = faces_in a.counts a.pents.now a.edges.now a.triangles.now in
-    let e : before F a.sq_lengths.now l.p ≡ pass_dihedrals F a.sq_lengths.now = ap (gather (dihedrals F a.sq_lengths.now)) (take_all l.p F.pents (omega (arith, length-rows 5 a.counts.pentachorons a.pents.now))) in
+    let F : FaceLists = faces_of a.complex.now in
+    let e : before F a.sq_lengths.now l.p ≡ pass_dihedrals F a.sq_lengths.now = ap (gather (dihedrals F a.sq_lengths.now)) (take_all l.p F.pents (omega (arith, length-rows 5 a.complex.now.counts.pentachorons a.complex.now.pents.now))) in
     (l.invariant.3 ∙ ap (λ es. scatter nan plus es a.sums.now) e, l.invariant.4 ∙ ap (λ es. scatter 0 byte_of_first es a.kinds.now) e)

@@ -7,7 +7,7 @@ use lib.Ieee.{Float, nan}
 use Rattle.lists.specs.Lists.{gather}
 use Rattle.lists.specs.Loops.{scatter}
 use Rattle.lorentzian.specs.declared.dihedral.Dihedral.{Dihedral}
-use Rattle.hinges.specs.Hinges.{FaceLists, faces_in, plus, dihedrals}
+use Rattle.hinges.specs.Hinges.{FaceLists, plus, dihedrals, faces_of}
 use Rattle.one_pass.specs.Pass.{byte_of_first}
 use Rattle.one_pass.proofs.add_all_dihedrals.Given as goal
 
@@ -17,9 +17,9 @@ before F ls p = gather (dihedrals F ls) (take p F.pents)
 
 abbrev pub invariant-loop-p : goal.invariant-loop-p
 invariant-loop-p l =
-    (l.p ≤ l.counts.pentachorons) × (length l.sums ≡ length l.initial.sums) × (length l.kinds ≡ length l.initial.kinds)
-    × (l.sums ≡ scatter nan plus (before (faces_in l.counts l.pents l.edges l.triangles) l.sq_lengths l.p) l.initial.sums)
-    × (l.kinds ≡ scatter 0 byte_of_first (before (faces_in l.counts l.pents l.edges l.triangles) l.sq_lengths l.p) l.initial.kinds)
+    (l.p ≤ l.complex.counts.pentachorons) × (length l.sums ≡ length l.initial.sums) × (length l.kinds ≡ length l.initial.kinds)
+    × (l.sums ≡ scatter nan plus (before (faces_of l.complex) l.sq_lengths l.p) l.initial.sums)
+    × (l.kinds ≡ scatter 0 byte_of_first (before (faces_of l.complex) l.sq_lengths l.p) l.initial.kinds)
 
 abbrev pub decreases-loop-p : goal.decreases-loop-p
-decreases-loop-p l = l.counts.pentachorons - l.p
+decreases-loop-p l = l.complex.counts.pentachorons - l.p

@@ -1,6 +1,6 @@
 -- `packed_input::decode` meets its contract. Assumes nothing.
 use mathlib.Core.Path.{refl, sym, ap, ◌∙◌, subst}
-use Rattle.complex.specs.declared.Built.{Built}
+use Rattle.complex.specs.Builder.{Built}
 use Rattle.complex.specs.Builder.{rooms_of}
 use Rattle.packed_input.specs.Decoding.{with_lengths, Few, zero_lists}
 use Rattle.packed_input.proofs.Complexes.{few-complex}

@@ -1,4 +1,5 @@
 -- `packed_input::decode_complex` meets its contract. Assumes nothing.
+use Rattle.std.specs.Prelude.{Err}
 use mathlib.Core.Path.{refl, sym, ap, ◌∙◌}
 use native.Mathlib.Omega.{arith}
 use Prim.Native.Nat.{ℕ, ◌*◌}
@@ -10,24 +11,24 @@ use Rattle.packed_input.proofs.decode_complex.Goals as goal
 pub number-n_vertices-requires : goal.number-n_vertices-requires
 number-n_vertices-requires c =
     let a = c.args in
-    let h = header-says a.input.now (sym c.check_header.ensures ∙ c.in-Done.is) in
+    let h = header-says a.input.now (sym c.check_header.ensures ∙ c.in-Ok.is) in
     (omega arith, omega arith, omega arith)
 
 pub number-n_pents-requires : goal.number-n_pents-requires
 number-n_pents-requires c =
     let a = c.args in
-    let h = header-says a.input.now (sym c.check_header.ensures ∙ c.in-Done.is) in
+    let h = header-says a.input.now (sym c.check_header.ensures ∙ c.in-Ok.is) in
     (omega arith, omega arith, omega arith)
 
 pub read_vertices-requires : goal.read_vertices-requires
 read_vertices-requires c =
     let a = c.args in
-    let h = header-says a.input.now (sym c.check_header.ensures ∙ c.in-Done.is) in
+    let h = header-says a.input.now (sym c.check_header.ensures ∙ c.in-Ok.is) in
     (omega arith, omega arith, omega arith)
 
 pub slice_bounds-given-end : goal.slice_bounds-given-end
 slice_bounds-given-end c =
-    let h = header-says c.args.input.now (sym c.check_header.ensures ∙ c.in-Done.is) in
+    let h = header-says c.args.input.now (sym c.check_header.ensures ∙ c.in-Ok.is) in
     omega (arith, c.read_vertices.auto.given)
 
 pub slice_bounds-from_pentachorons-end : goal.slice_bounds-from_pentachorons-end
@@ -36,18 +37,18 @@ slice_bounds-from_pentachorons-end c =
     let e = c.number-n_pents.ensures.0 in
     sym (ap length (vertices-front a.input.now _ _ _ e c.read_vertices.ensures) ∙ length-vertices a.input.now _ ∙ ap (λ (P : ℕ). 5 * P) (sym e))
 
-pub returns-in-Refused : goal.returns-in-Refused
-returns-in-Refused c =
-    let e = header-decides c.args.input.now _ (sym c.check_header.ensures ∙ c.in-Refused.is) in
+pub returns-in-Err : goal.returns-in-Err
+returns-in-Err c =
+    let e = header-decides c.args.input.now _ (sym c.check_header.ensures ∙ c.in-Err.is) in
     record {
       value = rw e refl;
       lists_after = rw e refl;
     }
 
-pub returns-in-Done : goal.returns-in-Done
-returns-in-Done c =
+pub returns-in-Ok : goal.returns-in-Ok
+returns-in-Ok c =
     let a = c.args in
-    let h = sym c.check_header.ensures ∙ c.in-Done.is in
+    let h = sym c.check_header.ensures ∙ c.in-Ok.is in
     let g = vertices-front a.input.now _ _ _ c.number-n_pents.ensures.0 c.read_vertices.ensures in
     let b = builder-answers a.input.now _ _ _ _ _ h c.number-n_vertices.ensures.0 g c.requires c.from_pentachorons.ensures in
     record { value = b.0; lists_after = b.1 }

@@ -1,7 +1,7 @@
 -- `retouch::retouch` meets its contract. Assumes nothing.
 use mathlib.Core.Path.{refl, sym, ◌∙◌}
 use lib.ListN.{length}
-use Rattle.complex.specs.Builder.{lists}
+use Rattle.complex.specs.Lent.{lists_of}
 use Rattle.comparison.proofs.Comparisons.{noted_of}
 use Rattle.calls.specs.Calls.{lengths_check_of, room_check_of, short_table}
 use Rattle.calls.proofs.BuiltCalls.{not-built, others-decide}
@@ -13,7 +13,7 @@ returns-then-not-is_built_noting c =
     let a = c.args in
     record {
       answered =
-          sym (not-built a.counts (lists a.pents.now a.edges.now a.triangles.now a.tets.now a.tri_to_pents_items.now a.tri_to_pents_starts.now a.edge_to_tris_items.now a.edge_to_tris_starts.now a.edge_to_pents_items.now a.edge_to_pents_starts.now) (lengths_check_of a.counts (length a.sq_lengths.now) (edge_check_of a.counts a.edge.0 (room_check_of (short_table a.counts (length a.deficits.now) (length a.kinds.now))))) (sym c.is_built_noting.ensures.value ∙ c.if-not-is_built_noting.true));
+          sym (not-built a.complex.now.counts (lists_of a.complex.now) (lengths_check_of a.complex.now.counts (length a.sq_lengths.now) (edge_check_of a.complex.now.counts a.edge.0 (room_check_of (short_table a.complex.now.counts (length a.deficits.now) (length a.kinds.now))))) (sym c.is_built_noting.ensures.value ∙ c.if-not-is_built_noting.true));
       lengths = refl;
       deficits = refl;
       kinds = refl;
@@ -32,7 +32,7 @@ returns c =
     record {
       answered =
           t.answered
-          ∙ sym (others-decide a.counts (lists a.pents.now a.edges.now a.triangles.now a.tets.now a.tri_to_pents_items.now a.tri_to_pents_starts.now a.edge_to_tris_items.now a.edge_to_tris_starts.now a.edge_to_pents_items.now a.edge_to_pents_starts.now) (lengths_check_of a.counts (length a.sq_lengths.now) (edge_check_of a.counts a.edge.0 (room_check_of (short_table a.counts (length a.deficits.now) (length a.kinds.now))))) (sym c.is_built_noting.ensures.value ∙ h));
+          ∙ sym (others-decide a.complex.now.counts (lists_of a.complex.now) (lengths_check_of a.complex.now.counts (length a.sq_lengths.now) (edge_check_of a.complex.now.counts a.edge.0 (room_check_of (short_table a.complex.now.counts (length a.deficits.now) (length a.kinds.now))))) (sym c.is_built_noting.ensures.value ∙ h));
       lengths = t.lengths;
       deficits = t.deficits;
       kinds = t.kinds;

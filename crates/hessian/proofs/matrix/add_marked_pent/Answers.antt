@@ -2,7 +2,7 @@
 use mathlib.Core.Path.{refl}
 use lib.ListN.{length}
 use Rattle.lists.specs.Loops.{scatter}
-use Rattle.hinges.specs.Hinges.{FaceLists, faces_in}
+use Rattle.hinges.specs.Hinges.{FaceLists, faces_of}
 use Rattle.hinges.proofs.PentachoronSteps.{own-edges}
 use Rattle.hessian.specs.Parts.{second_at}
 use Rattle.hessian.proofs.HessianLoops.{if-marked, if-not-marked, second-event}
@@ -15,17 +15,17 @@ returns-then-mark-ne1 c = rw (if-not-marked c.args.mark _ c.if-mark-ne1.true) re
 pub pent_sq_lengths-s-requires : goal.pent_sq_lengths-s-requires
 pent_sq_lengths-s-requires c =
     let a = c.args in
-    own-edges a.counts a.pents.now a.edges.now a.triangles.now a.pent_edges.now a.pent_tris.now (length a.sq_lengths.now) c.requires.0 a.pent.0 c.requires.1 c.pent_edge_indices-own.result.now c.pent_edge_indices-own.ensures
+    own-edges a.complex.now.counts a.complex.now.pents.now a.complex.now.edges.now a.complex.now.triangles.now a.incidence.now.pent_edges.now a.incidence.now.pent_tris.now (length a.sq_lengths.now) c.requires.0 a.pent.0 c.requires.1 c.pent_edge_indices-own.result.now c.pent_edge_indices-own.ensures
 
 pub places_of_ten-at-requires : goal.places_of_ten-at-requires
 places_of_ten-at-requires c =
     let a = c.args in
-    (own-edges a.counts a.pents.now a.edges.now a.triangles.now a.pent_edges.now a.pent_tris.now (length a.sq_lengths.now) c.requires.0 a.pent.0 c.requires.1 c.pent_edge_indices-own.result.now c.pent_edge_indices-own.ensures).0
+    (own-edges a.complex.now.counts a.complex.now.pents.now a.complex.now.edges.now a.complex.now.triangles.now a.incidence.now.pent_edges.now a.incidence.now.pent_tris.now (length a.sq_lengths.now) c.requires.0 a.pent.0 c.requires.1 c.pent_edge_indices-own.result.now c.pent_edge_indices-own.ensures).0
 
 pub returns : goal.returns
 returns c =
     let a = c.args in
-    let F : FaceLists = faces_in a.counts a.pents.now a.edges.now a.triangles.now in
+    let F : FaceLists = faces_of a.complex.now in
     let o = c.pent_edge_indices-own in
     let s = c.pent_sq_lengths-s in
     let p = c.places_of_ten-at in

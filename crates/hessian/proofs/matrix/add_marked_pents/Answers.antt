@@ -8,7 +8,7 @@ use Rattle.floats.specs.Ops.{◌⊕◌}
 use Rattle.lists.specs.Lists.{gather, upto}
 use Rattle.lists.specs.Loops.{scatter}
 use Rattle.lists.proofs.Loops.{scatter-turn}
-use Rattle.hinges.specs.Hinges.{faces_in}
+use Rattle.hinges.specs.Hinges.{faces_of}
 use Rattle.hessian.specs.Parts.{second_at}
 use Rattle.hessian.proofs.HessianLoops.{marked_events}
 use Rattle.hessian.proofs.matrix.add_marked_pents.Invariants.{event}
@@ -31,7 +31,7 @@ loop-p-preserved c =
     let a = c.args in
     let l = c.loop-p in
     let f = c.add_marked_pent in
-    let events : ℕ → List (ℕ × Float) = event (faces_in a.counts a.pents.now a.edges.now a.triangles.now) a.sq_lengths.now a.free_edges.now a.fd_eps a.marks.now in (
+    let events : ℕ → List (ℕ × Float) = event (faces_of a.complex.now) a.sq_lengths.now a.free_edges.now a.fd_eps a.marks.now in (
       omega arith,
       f.auto.matrix ∙ l.invariant.1,
       scatter-turn nan ◌⊕◌ events l.p (events l.p) a.matrix.now l.matrix f.new.matrix refl l.invariant.2 f.ensures,
@@ -44,5 +44,5 @@ pub returns : goal.returns
 returns c =
     let a = c.args in
     let l = c.loop-p in
-    let e : l.p ≡ a.counts.pentachorons = omega arith in
-    rw (← marked_events (second_at (faces_in a.counts a.pents.now a.edges.now a.triangles.now) a.sq_lengths.now a.free_edges.now a.fd_eps) a.counts.pentachorons a.marks.now) (rw e at l.invariant.2)
+    let e : l.p ≡ a.complex.now.counts.pentachorons = omega arith in
+    rw (← marked_events (second_at (faces_of a.complex.now) a.sq_lengths.now a.free_edges.now a.fd_eps) a.complex.now.counts.pentachorons a.marks.now) (rw e at l.invariant.2)

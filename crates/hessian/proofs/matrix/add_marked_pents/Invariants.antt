@@ -7,7 +7,7 @@ use lib.ListN.{length, get_or}
 use Rattle.floats.specs.Ops.{◌⊕◌}
 use Rattle.lists.specs.Lists.{gather, upto}
 use Rattle.lists.specs.Loops.{scatter}
-use Rattle.hinges.specs.Hinges.{FaceLists, faces_in}
+use Rattle.hinges.specs.Hinges.{FaceLists, faces_of}
 use Rattle.hessian.specs.Parts.{second_at}
 use Rattle.hessian.specs.Steps.{if_marked}
 use Rattle.hessian.proofs.matrix.add_marked_pents.Given as goal
@@ -18,8 +18,8 @@ event F ls free eps marks p = if_marked (get_or marks p 0) (second_at F ls free 
 
 abbrev pub invariant-loop-p : goal.invariant-loop-p
 invariant-loop-p l =
-    (l.p ≤ l.counts.pentachorons) × (length l.matrix ≡ length l.initial.matrix)
-    × (l.matrix ≡ scatter nan ◌⊕◌ (gather (event (faces_in l.counts l.pents l.edges l.triangles) l.sq_lengths l.free_edges l.fd_eps l.marks) (upto l.p)) l.initial.matrix)
+    (l.p ≤ l.complex.counts.pentachorons) × (length l.matrix ≡ length l.initial.matrix)
+    × (l.matrix ≡ scatter nan ◌⊕◌ (gather (event (faces_of l.complex) l.sq_lengths l.free_edges l.fd_eps l.marks) (upto l.p)) l.initial.matrix)
 
 abbrev pub decreases-loop-p : goal.decreases-loop-p
-decreases-loop-p l = l.counts.pentachorons - l.p
+decreases-loop-p l = l.complex.counts.pentachorons - l.p

@@ -4,7 +4,7 @@ use native.Mathlib.Omega.{arith}
 use lib.ListN.{length}
 use Rattle.lists.specs.Loops.{scatter}
 use Rattle.incidence.specs.Incidence.{edge_list}
-use Rattle.hinges.specs.Hinges.{FaceLists, faces_in}
+use Rattle.hinges.specs.Hinges.{FaceLists, faces_of}
 use Rattle.hinges.proofs.TriangleSteps.{edges-below}
 use Rattle.hessian.specs.Parts.{diagonal_at, first_at}
 use Rattle.hessian.proofs.HessianLoops.{if-marked, if-not-marked, diagonal-event, first-event}
@@ -17,18 +17,18 @@ returns-then-mark-ne1 c = let m = c.args.mark in (rw (if-not-marked m _ c.if-mar
 pub tri_sq_lengths-s-requires : goal.tri_sq_lengths-s-requires
 tri_sq_lengths-s-requires c =
     let a = c.args in
-    edges-below a.counts a.pents.now a.edges.now a.triangles.now a.tri_to_pents_items.now a.tri_to_pents_starts.now a.pent_edges.now a.pent_tris.now (length a.sq_lengths.now) c.requires.0 a.tri.0 c.requires.1 (edge_list c.tri_edge_indices-own.result) c.tri_edge_indices-own.ensures (length a.sq_lengths.now) (omega (arith, c.requires.0.passable.lengths))
+    edges-below a.complex.now.counts a.complex.now.pents.now a.complex.now.edges.now a.complex.now.triangles.now a.complex.now.tri_to_pents.items.now a.complex.now.tri_to_pents.starts.now a.incidence.now.pent_edges.now a.incidence.now.pent_tris.now (length a.sq_lengths.now) c.requires.0 a.tri.0 c.requires.1 (edge_list c.tri_edge_indices-own.result) c.tri_edge_indices-own.ensures (length a.sq_lengths.now) (omega (arith, c.requires.0.passable.lengths))
 
 pub add_first-requires : goal.add_first-requires
 add_first-requires c =
     let a = c.args in
     let r = c.requires in
-    (r.3, r.4, edges-below a.counts a.pents.now a.edges.now a.triangles.now a.tri_to_pents_items.now a.tri_to_pents_starts.now a.pent_edges.now a.pent_tris.now (length a.sq_lengths.now) r.0 a.tri.0 r.1 (edge_list c.tri_edge_indices-own.result) c.tri_edge_indices-own.ensures (length a.diagonal.now) r.2)
+    (r.3, r.4, edges-below a.complex.now.counts a.complex.now.pents.now a.complex.now.edges.now a.complex.now.triangles.now a.complex.now.tri_to_pents.items.now a.complex.now.tri_to_pents.starts.now a.incidence.now.pent_edges.now a.incidence.now.pent_tris.now (length a.sq_lengths.now) r.0 a.tri.0 r.1 (edge_list c.tri_edge_indices-own.result) c.tri_edge_indices-own.ensures (length a.diagonal.now) r.2)
 
 pub returns : goal.returns
 returns c =
     let a = c.args in
-    let F : FaceLists = faces_in a.counts a.pents.now a.edges.now a.triangles.now in
+    let F : FaceLists = faces_of a.complex.now in
     let o = c.tri_edge_indices-own in
     let h = c.hinge_at-hinge in
     let s = c.tri_sq_lengths-s in

@@ -8,7 +8,7 @@ use Rattle.floats.specs.Ops.{◌⊕◌}
 use Rattle.lists.specs.Lists.{gather, upto}
 use Rattle.lists.specs.Loops.{scatter}
 use Rattle.lists.proofs.Loops.{scatter-turn}
-use Rattle.hinges.specs.Hinges.{FaceLists, faces_in}
+use Rattle.hinges.specs.Hinges.{FaceLists, faces_of}
 use Rattle.second_derivatives.specs.Parts.{before}
 use Rattle.hessian.specs.Parts.{diagonal_at, first_at}
 use Rattle.hessian.proofs.HessianLoops.{marked_events}
@@ -33,7 +33,7 @@ loop-t-preserved c =
     let a = c.args in
     let l = c.loop-t in
     let f = c.add_marked_tri in
-    let F : FaceLists = faces_in a.counts a.pents.now a.edges.now a.triangles.now in
+    let F : FaceLists = faces_of a.complex.now in
     let diagonals : ℕ → List (ℕ × Float) = on_event F a.sq_lengths.now a.marks.now in
     let others : ℕ → List (ℕ × Float) = off_event F a.sq_lengths.now a.free_edges.now a.marks.now in (
       omega arith,
@@ -53,8 +53,8 @@ pub returns : goal.returns
 returns c =
     let a = c.args in
     let l = c.loop-t in
-    let F : FaceLists = faces_in a.counts a.pents.now a.edges.now a.triangles.now in
-    let e : l.t ≡ a.counts.triangles = omega arith in (
-      rw (← marked_events (diagonal_at F a.sq_lengths.now) a.counts.triangles a.marks.now) (rw e at l.invariant.3),
-      rw (← marked_events (first_at F a.sq_lengths.now a.free_edges.now) a.counts.triangles a.marks.now) (rw e at l.invariant.4),
+    let F : FaceLists = faces_of a.complex.now in
+    let e : l.t ≡ a.complex.now.counts.triangles = omega arith in (
+      rw (← marked_events (diagonal_at F a.sq_lengths.now) a.complex.now.counts.triangles a.marks.now) (rw e at l.invariant.3),
+      rw (← marked_events (first_at F a.sq_lengths.now a.free_edges.now) a.complex.now.counts.triangles a.marks.now) (rw e at l.invariant.4),
     )

@@ -7,7 +7,7 @@ use lib.ListN.{length, get_or}
 use Rattle.floats.specs.Ops.{◌⊕◌}
 use Rattle.lists.specs.Lists.{gather, upto}
 use Rattle.lists.specs.Loops.{scatter}
-use Rattle.hinges.specs.Hinges.{FaceLists, faces_in}
+use Rattle.hinges.specs.Hinges.{FaceLists, faces_of}
 use Rattle.second_derivatives.specs.Parts.{before}
 use Rattle.hessian.specs.Parts.{diagonal_at, first_at}
 use Rattle.hessian.specs.Steps.{if_marked}
@@ -23,9 +23,9 @@ off_event F ls free marks t = if_marked (get_or marks t 0) (first_at F ls free t
 
 abbrev pub invariant-loop-t : goal.invariant-loop-t
 invariant-loop-t l =
-    (l.t ≤ l.counts.triangles) × (length l.diagonal ≡ length l.initial.diagonal) × (length l.matrix ≡ length l.initial.matrix)
-    × (l.diagonal ≡ scatter nan ◌⊕◌ (gather (on_event (faces_in l.counts l.pents l.edges l.triangles) l.sq_lengths l.marks) (upto l.t)) l.initial.diagonal)
-    × (l.matrix ≡ scatter nan before (gather (off_event (faces_in l.counts l.pents l.edges l.triangles) l.sq_lengths l.free_edges l.marks) (upto l.t)) l.initial.matrix)
+    (l.t ≤ l.complex.counts.triangles) × (length l.diagonal ≡ length l.initial.diagonal) × (length l.matrix ≡ length l.initial.matrix)
+    × (l.diagonal ≡ scatter nan ◌⊕◌ (gather (on_event (faces_of l.complex) l.sq_lengths l.marks) (upto l.t)) l.initial.diagonal)
+    × (l.matrix ≡ scatter nan before (gather (off_event (faces_of l.complex) l.sq_lengths l.free_edges l.marks) (upto l.t)) l.initial.matrix)
 
 abbrev pub decreases-loop-t : goal.decreases-loop-t
-decreases-loop-t l = l.counts.triangles - l.t
+decreases-loop-t l = l.complex.counts.triangles - l.t

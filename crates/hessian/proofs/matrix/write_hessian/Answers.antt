@@ -16,4 +16,4 @@ returns c =
     let z = c.zero_all in
     let s = c.add_second_term in
     let f = c.add_first_term in
-    hessian-whole a.counts a.pents.now a.edges.now a.triangles.now a.tri_to_pents_items.now a.tri_to_pents_starts.now a.pent_edges.now a.pent_tris.now (length a.sq_lengths.now) r.0 a.sq_lengths.now a.free_edges.now a.fd_eps r.4 r.3 r.5 a.matrix.now z.new.list s.new.matrix f.new.matrix z.ensures s.ensures f.ensures
+    hessian-whole a.complex.now.counts a.complex.now.pents.now a.complex.now.edges.now a.complex.now.triangles.now a.complex.now.tri_to_pents.items.now a.complex.now.tri_to_pents.starts.now a.incidence.now.pent_edges.now a.incidence.now.pent_tris.now (length a.sq_lengths.now) r.0 a.sq_lengths.now a.free_edges.now a.fd_eps r.4 r.3 r.5 a.matrix.now z.new.list s.new.matrix f.new.matrix z.ensures s.ensures f.ensures

@@ -2,7 +2,7 @@
 use mathlib.Core.Path.{refl, ◌∙◌}
 use mathlib.Core.List.{[]}
 use lib.ListN.{length, get_or}
-use Rattle.complex.specs.Check.{pents_in, triangles_in}
+use Rattle.complex.specs.Lent.{pents_of, triangles_of}
 use Rattle.hinges.specs.Hinges.{pent_lengths, dihedral_in}
 use Rattle.hinges.proofs.PentachoronSteps.{pent-five, own-edges}
 use Rattle.hinges.proofs.TriangleSteps.{opposite-below}
@@ -14,7 +14,7 @@ pent_edge_indices-own-requires c = (c.requires.0.passable.edge_numbers, c.requir
 pub pent_sq_lengths-s-requires : goal.pent_sq_lengths-s-requires
 pent_sq_lengths-s-requires c =
     let a = c.args in
-    own-edges a.counts a.pents.now a.edges.now a.triangles.now a.pent_edges.now a.pent_tris.now (length a.sq_lengths.now) c.requires.0.passable a.pent.0 c.requires.1 c.pent_edge_indices-own.result.now c.pent_edge_indices-own.ensures
+    own-edges a.complex.now.counts a.complex.now.pents.now a.complex.now.edges.now a.complex.now.triangles.now a.incidence.now.pent_edges.now a.incidence.now.pent_tris.now (length a.sq_lengths.now) c.requires.0.passable a.pent.0 c.requires.1 c.pent_edge_indices-own.result.now c.pent_edge_indices-own.ensures
 
 pub opposite_local_indices-requires : goal.opposite_local_indices-requires
 opposite_local_indices-requires c = let r = c.requires in (r.0.simplices, r.0.passable.tri_numbers, r.1, r.2, r.3)
@@ -22,8 +22,8 @@ opposite_local_indices-requires c = let r = c.requires in (r.0.simplices, r.0.pa
 pub dihedral_at-requires : goal.dihedral_at-requires
 dihedral_at-requires c =
     let a = c.args in
-    opposite-below (get_or (pents_in a.counts a.pents.now) a.pent.0 []) (get_or (triangles_in a.counts a.triangles.now) a.tri.0 []) c.opposite_local_indices.result
-    (pent-five a.counts a.pents.now a.edges.now a.triangles.now a.pent_edges.now a.pent_tris.now (length a.sq_lengths.now) c.requires.0.passable a.pent.0 c.requires.1) c.opposite_local_indices.ensures
+    opposite-below (get_or (pents_of a.complex.now) a.pent.0 []) (get_or (triangles_of a.complex.now) a.tri.0 []) c.opposite_local_indices.result
+    (pent-five a.complex.now.counts a.complex.now.pents.now a.complex.now.edges.now a.complex.now.triangles.now a.incidence.now.pent_edges.now a.incidence.now.pent_tris.now (length a.sq_lengths.now) c.requires.0.passable a.pent.0 c.requires.1) c.opposite_local_indices.ensures
 
 pub returns : goal.returns
 unfolding dihedral_in pent_lengths

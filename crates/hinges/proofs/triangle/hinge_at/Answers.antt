@@ -1,4 +1,5 @@
 -- `hinges::triangle::hinge_at` meets its contract. Assumes nothing.
+use Rattle.std.specs.Prelude.{None}
 use Prim.Native.Nat.{ℕ}
 use mathlib.Core.Path.{◌≡◌, refl, sym, ◌∙◌}
 use mathlib.Core.List.{[]}
@@ -8,10 +9,9 @@ use lib.Seq.{take_all}
 use Rattle.floats.specs.Ops.{zero}
 use Rattle.lists.proofs.Rows.{length-rows}
 use Rattle.lists.proofs.Folds.{fold_next}
-use Rattle.complex.specs.Check.{triangles_in}
+use Rattle.complex.specs.Lent.{triangles_of}
 use Rattle.lorentzian.specs.declared.dihedral.Dihedral.{Dihedral}
-use Rattle.hinges.specs.declared.hinge.KindByte.TheVariants.{NoKind}
-use Rattle.hinges.specs.Hinges.{FaceLists, faces_in, plus, first, hinge, dihedral_in}
+use Rattle.hinges.specs.Hinges.{FaceLists, plus, first, hinge, dihedral_in, faces_of}
 use Rattle.hinges.proofs.PentachoronSteps.{pents-wide}
 use Rattle.hinges.proofs.TriangleSteps.{holder-lies}
 use Rattle.hinges.proofs.OnePass.{hinge-in}
@@ -27,7 +27,7 @@ pub dihedral_in-dihedral-requires : goal.dihedral_in-dihedral-requires
 dihedral_in-dihedral-requires c =
     let a = c.args in
     let r = c.requires in
-    let h = holder-lies a.counts a.pents.now a.edges.now a.triangles.now a.tri_to_pents_items.now a.tri_to_pents_starts.now a.pent_edges.now a.pent_tris.now (length a.sq_lengths.now) r.0 a.tri.0 r.1 c.pents_of_triangle-holders.result.now c.pents_of_triangle-holders.ensures c.loop-k.k (omega arith) in
+    let h = holder-lies a.complex.now.counts a.complex.now.pents.now a.complex.now.edges.now a.complex.now.triangles.now a.complex.now.tri_to_pents.items.now a.complex.now.tri_to_pents.starts.now a.incidence.now.pent_edges.now a.incidence.now.pent_tris.now (length a.sq_lengths.now) r.0 a.tri.0 r.1 c.pents_of_triangle-holders.result.now c.pents_of_triangle-holders.ensures c.loop-k.k (omega arith) in
     (r.0, h.0, r.1, h.1)
 
 pub loop-k-preserved : goal.loop-k-preserved
@@ -37,10 +37,10 @@ loop-k-preserved c =
     let l = c.loop-k in
     let d = c.dihedral_in-dihedral in
     let own = c.pents_of_triangle-holders.result.now in
-    let f : ℕ → Dihedral = dihedral_in (faces_in a.counts a.pents.now a.edges.now a.triangles.now) a.sq_lengths.now (get_or (triangles_in a.counts a.triangles.now) a.tri.0 []) in (
+    let f : ℕ → Dihedral = dihedral_in (faces_of a.complex.now) a.sq_lengths.now (get_or (triangles_of a.complex.now) a.tri.0 []) in (
       omega arith,
       rw (c.value-sum.ensures, d.ensures, l.invariant.1) (sym (fold_next f plus zero own l.k 0 (omega arith))),
-      c.or_kind_of-kind.ensures ∙ rw (d.ensures, l.invariant.2) (sym (fold_next f first NoKind own l.k 0 (omega arith))),
+      c.or_kind_of-kind.ensures ∙ rw (d.ensures, l.invariant.2) (sym (fold_next f first None own l.k 0 (omega arith))),
     )
 
 pub returns : goal.returns
@@ -50,7 +50,7 @@ returns c =
     let r = c.requires in
     let l = c.loop-k in
     let h = c.pents_of_triangle-holders in
-    let F : FaceLists = faces_in a.counts a.pents.now a.edges.now a.triangles.now in
-    let f : ℕ → Dihedral = dihedral_in F a.sq_lengths.now (get_or (triangles_in a.counts a.triangles.now) a.tri.0 []) in
+    let F : FaceLists = faces_of a.complex.now in
+    let f : ℕ → Dihedral = dihedral_in F a.sq_lengths.now (get_or (triangles_of a.complex.now) a.tri.0 []) in
     let e : take l.k h.result.now ≡ h.result.now = take_all l.k h.result.now (omega arith) in
-    c.closed.ensures ∙ rw (l.invariant.1, l.invariant.2, e, h.ensures) (sym (hinge-in F a.sq_lengths.now r.0.simplices (pents-wide a.counts a.pents.now a.edges.now a.triangles.now a.pent_edges.now a.pent_tris.now (length a.sq_lengths.now) r.0.passable) a.tri.0 (rw (length-rows 3 a.counts.triangles a.triangles.now) r.1)))
+    c.closed.ensures ∙ rw (l.invariant.1, l.invariant.2, e, h.ensures) (sym (hinge-in F a.sq_lengths.now r.0.simplices (pents-wide a.complex.now.counts a.complex.now.pents.now a.complex.now.edges.now a.complex.now.triangles.now a.incidence.now.pent_edges.now a.incidence.now.pent_tris.now (length a.sq_lengths.now) r.0.passable) a.tri.0 (rw (length-rows 3 a.complex.now.counts.triangles a.complex.now.triangles.now) r.1)))

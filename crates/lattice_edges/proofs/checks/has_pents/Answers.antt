@@ -42,7 +42,7 @@ returns-then-pents-len c =
     let a = c.args in
     let l = a.lattice in
     let ok = lawful l c.requires in
-    let short = fails (begins-says (flat (lattice_pents l)) a.pents.now) (λ e. omega (arith, begins-long (flat (lattice_pents l)) a.pents.now e, length-flat-pents l ok, c.list-count.ensures.0)) in
+    let short = fails (begins-says (flat (lattice_pents l)) a.complex.now.pents.now) (λ e. omega (arith, begins-long (flat (lattice_pents l)) a.complex.now.pents.now e, length-flat-pents l ok, c.list-count.ensures.0)) in
     rw (eq-eqb _ _ (rw c.n_total.ensures at c.if-counts-n_total.false), eq-eqb _ _ (rw c.list-count.ensures.0 at c.if-counts-count.false), short) refl
 
 pub slice_bounds-own-end : goal.slice_bounds-own-end
@@ -69,4 +69,4 @@ returns c =
     let l = a.lattice in
     let ok = lawful l c.requires in
     let front = pents-front l ok _ _ _ c.list-count.ensures.0 c.list-count.ensures.1 in
-    rw front at c.same_row.ensures ∙ eqs-begins (flat (lattice_pents l)) a.pents.now ∙ rw (eq-eqb _ _ (rw c.n_total.ensures at c.if-counts-n_total.false), eq-eqb _ _ (rw c.list-count.ensures.0 at c.if-counts-count.false)) refl
+    rw front at c.same_row.ensures ∙ eqs-begins (flat (lattice_pents l)) a.complex.now.pents.now ∙ rw (eq-eqb _ _ (rw c.n_total.ensures at c.if-counts-n_total.false), eq-eqb _ _ (rw c.list-count.ensures.0 at c.if-counts-count.false)) refl

@@ -7,7 +7,7 @@ use Rattle.lists.specs.Rows.{over}
 use Rattle.lists.proofs.Rows.{written_next, written_all}
 use Rattle.lorentzian.specs.Dihedral.{kind_number}
 use Rattle.hinges.specs.declared.hinge.Hinge.{Hinge}
-use Rattle.hinges.specs.Hinges.{faces_in, hinges, hinge_in}
+use Rattle.hinges.specs.Hinges.{hinges, hinge_in, faces_of}
 use Rattle.local_regge.proofs.local_deficits.write_hinges.Goals as goal
 
 pub loop-k-init : goal.loop-k-init
@@ -31,7 +31,7 @@ loop-k-preserved c =
     let l = c.loop-k in
     let p = c.requires in
     let h = c.hinge_at-hinge.ensures in
-    let T = hinges (faces_in a.counts a.pents.now a.edges.now a.triangles.now) a.sq_lengths.now in (
+    let T = hinges (faces_of a.complex.now) a.sq_lengths.now in (
       omega (arith, c.loop-k-test.true),
       length-set l.deficits l.k _ ∙ l.invariant.1,
       length-set l.kinds l.k _ ∙ l.invariant.2,
@@ -49,7 +49,7 @@ pub returns : goal.returns
 returns c =
     let a = c.args in
     let l = c.loop-k in
-    let T = hinges (faces_in a.counts a.pents.now a.edges.now a.triangles.now) a.sq_lengths.now in
+    let T = hinges (faces_of a.complex.now) a.sq_lengths.now in
     let e : l.k ≡ a.count = omega arith in (
       written_all (λ t. (hinge_in T t).deficit) a.tris.now a.count a.deficits.now l.deficits c.requires.2 (rw e at l.invariant.3) ∙ ap (λ xs. over xs a.deficits.now) (sym (map-map (λ h. h.deficit) (hinge_in T) (take a.count a.tris.now))),
       written_all (λ t. kind_number (hinge_in T t).kind) a.tris.now a.count a.kinds.now l.kinds c.requires.2 (rw e at l.invariant.4) ∙ ap (λ xs. over xs a.kinds.now) (sym (map-map (λ h. kind_number h.kind) (hinge_in T) (take a.count a.tris.now))),

@@ -12,7 +12,7 @@ use Rattle.incidence.specs.Incidence.{edge_list}
 use Rattle.marks.specs.Marks.{marked_below}
 use Rattle.marks.proofs.Marking.{scatter-here, scatter-past}
 use Rattle.hinges.specs.declared.hinge.Hinge.{Hinge}
-use Rattle.hinges.specs.Hinges.{FaceLists, faces_in, hinges, lengths_at, deficits_of}
+use Rattle.hinges.specs.Hinges.{FaceLists, hinges, lengths_at, deficits_of, faces_of}
 use Rattle.hinges.specs.Action.{edges_at, tri_lengths, contributions_of, contributions}
 use Rattle.hinges.proofs.TriangleSteps.{edges-below}
 use Rattle.local_regge.proofs.LocalSteps.{deficit-at}
@@ -33,7 +33,7 @@ pub tri_sq_lengths-s-requires : goal.tri_sq_lengths-s-requires
 tri_sq_lengths-s-requires c =
     let a = c.args in
     let r = c.requires.0 in
-    edges-below a.counts a.pents.now a.edges.now a.triangles.now a.tri_to_pents_items.now a.tri_to_pents_starts.now a.pent_edges.now a.pent_tris.now (length a.sq_lengths.now) r c.loop-t.t c.loop-t-test.true (edge_list c.tri_edge_indices-own.result) c.tri_edge_indices-own.ensures (length a.sq_lengths.now) (omega (arith, r.passable.lengths))
+    edges-below a.complex.now.counts a.complex.now.pents.now a.complex.now.edges.now a.complex.now.triangles.now a.complex.now.tri_to_pents.items.now a.complex.now.tri_to_pents.starts.now a.incidence.now.pent_edges.now a.incidence.now.pent_tris.now (length a.sq_lengths.now) r c.loop-t.t c.loop-t-test.true (edge_list c.tri_edge_indices-own.result) c.tri_edge_indices-own.ensures (length a.sq_lengths.now) (omega (arith, r.passable.lengths))
 
 pub hinge_at-hinge-requires : goal.hinge_at-hinge-requires
 hinge_at-hinge-requires c = (c.requires.0, c.loop-t-test.true)
@@ -42,7 +42,7 @@ pub add_contributions-requires : goal.add_contributions-requires
 add_contributions-requires c =
     let a = c.args in
     let l = c.loop-t in
-    edges-below a.counts a.pents.now a.edges.now a.triangles.now a.tri_to_pents_items.now a.tri_to_pents_starts.now a.pent_edges.now a.pent_tris.now (length a.sq_lengths.now) c.requires.0 l.t c.loop-t-test.true (edge_list c.tri_edge_indices-own.result) c.tri_edge_indices-own.ensures (length l.entries) (omega (arith, c.requires.2, l.invariant.1))
+    edges-below a.complex.now.counts a.complex.now.pents.now a.complex.now.edges.now a.complex.now.triangles.now a.complex.now.tri_to_pents.items.now a.complex.now.tri_to_pents.starts.now a.incidence.now.pent_edges.now a.incidence.now.pent_tris.now (length a.sq_lengths.now) c.requires.0 l.t c.loop-t-test.true (edge_list c.tri_edge_indices-own.result) c.tri_edge_indices-own.ensures (length l.entries) (omega (arith, c.requires.2, l.invariant.1))
 
 pub overflow_add-t : goal.overflow_add-t
 overflow_add-t c = omega (arith, c.requires.0.few, c.loop-t-test.true)
@@ -52,7 +52,7 @@ unfolding contributions tri_lengths
 loop-t-preserved c =
     let a = c.args in
     let l = c.loop-t in
-    let F : FaceLists = faces_in a.counts a.pents.now a.edges.now a.triangles.now in
+    let F : FaceLists = faces_of a.complex.now in
     let ls = a.sq_lengths.now in
     let ds = deficits_of (hinges F ls) in
     elim c.if-marks-t-eq1.branch [
@@ -64,7 +64,7 @@ loop-t-preserved c =
           let e : contributions_of (edge_list own.result) s.result h.result.deficit ≡ contributions F ls ds l.t =
           ap (λ es. contributions_of es s.result h.result.deficit) own.ensures
           ∙ ap (λ r. contributions_of (edges_at F l.t) r h.result.deficit) (s.ensures ∙ ap (lengths_at ls) own.ensures)
-          ∙ ap (contributions_of (edges_at F l.t) (tri_lengths F ls l.t)) (ap (λ (u : Hinge). u.deficit) h.ensures ∙ deficit-at F ls l.t (omega (arith, c.loop-t-test.true, length-rows 3 a.counts.triangles a.triangles.now))) in (
+          ∙ ap (contributions_of (edges_at F l.t) (tri_lengths F ls l.t)) (ap (λ (u : Hinge). u.deficit) h.ensures ∙ deficit-at F ls l.t (omega (arith, c.loop-t-test.true, length-rows 3 a.complex.now.counts.triangles a.complex.now.triangles.now))) in (
             omega (arith, c.loop-t-test.true),
             c.if-marks-t-eq1.auto.entries ∙ l.invariant.1,
             rw w.entries-is (scatter-here nan ◌⊕◌ (contributions F ls ds) a.marks.now l.t a.entries.now l.entries l.invariant.2 (eq-eqb _ _ w.if-marks-t-eq1.true) _ e _ f.ensures),
@@ -83,5 +83,5 @@ pub returns : goal.returns
 returns c =
     let a = c.args in
     let l = c.loop-t in
-    let e : l.t ≡ a.counts.triangles = omega arith in
+    let e : l.t ≡ a.complex.now.counts.triangles = omega arith in
     rw e at l.invariant.2

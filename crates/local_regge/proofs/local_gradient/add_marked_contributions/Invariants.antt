@@ -7,13 +7,13 @@ use Rattle.floats.specs.Ops.{◌⊕◌}
 use Rattle.lists.specs.Lists.{gather}
 use Rattle.lists.specs.Loops.{scatter}
 use Rattle.marks.specs.Marks.{marked_below}
-use Rattle.hinges.specs.Hinges.{faces_in, hinges, deficits_of}
+use Rattle.hinges.specs.Hinges.{hinges, deficits_of, faces_of}
 use Rattle.hinges.specs.Action.{contributions}
 use Rattle.local_regge.proofs.local_gradient.add_marked_contributions.Given as goal
 
 abbrev pub invariant-loop-t : goal.invariant-loop-t
-invariant-loop-t l = (l.t ≤ l.counts.triangles) × (length l.entries ≡ length l.initial.entries)
-    × (l.entries ≡ scatter nan ◌⊕◌ (gather (contributions (faces_in l.counts l.pents l.edges l.triangles) l.sq_lengths (deficits_of (hinges (faces_in l.counts l.pents l.edges l.triangles) l.sq_lengths))) (marked_below l.t l.marks)) l.initial.entries)
+invariant-loop-t l = (l.t ≤ l.complex.counts.triangles) × (length l.entries ≡ length l.initial.entries)
+    × (l.entries ≡ scatter nan ◌⊕◌ (gather (contributions (faces_of l.complex) l.sq_lengths (deficits_of (hinges (faces_of l.complex) l.sq_lengths))) (marked_below l.t l.marks)) l.initial.entries)
 
 abbrev pub decreases-loop-t : goal.decreases-loop-t
-decreases-loop-t l = l.counts.triangles - l.t
+decreases-loop-t l = l.complex.counts.triangles - l.t

@@ -2,7 +2,7 @@
 use mathlib.Core.Path.{refl, sym, ◌∙◌}
 use lib.Dec.{ltb}
 use lib.ListN.{length}
-use Rattle.complex.specs.Builder.{lists}
+use Rattle.complex.specs.Lent.{lists_of}
 use Rattle.comparison.proofs.Comparisons.{noted_of}
 use Rattle.calls.specs.Calls.{lengths_check_of, free_check_of, room_check_of}
 use Rattle.calls.proofs.BuiltCalls.{not-built, others-decide}
@@ -11,7 +11,7 @@ use Rattle.local_regge.proofs.local_gradient.local_lorentzian_regge_action_grad.
 pub returns-then-not-is_built_noting : goal.returns-then-not-is_built_noting
 returns-then-not-is_built_noting c =
     let a = c.args in
-    record { answered = sym (not-built a.counts (lists a.pents.now a.edges.now a.triangles.now a.tets.now a.tri_to_pents_items.now a.tri_to_pents_starts.now a.edge_to_tris_items.now a.edge_to_tris_starts.now a.edge_to_pents_items.now a.edge_to_pents_starts.now) (lengths_check_of a.counts (length a.sq_lengths.now) (free_check_of a.counts a.free_edges.now (room_check_of (ltb (length a.grad.now) (length a.free_edges.now))))) (sym c.is_built_noting.ensures.value ∙ c.if-not-is_built_noting.true)); entries = refl }
+    record { answered = sym (not-built a.complex.now.counts (lists_of a.complex.now) (lengths_check_of a.complex.now.counts (length a.sq_lengths.now) (free_check_of a.complex.now.counts a.free_edges.now (room_check_of (ltb (length a.grad.now) (length a.free_edges.now))))) (sym c.is_built_noting.ensures.value ∙ c.if-not-is_built_noting.true)); entries = refl }
 
 pub local_lorentzian_regge_action_grad_built-requires : goal.local_lorentzian_regge_action_grad_built-requires
 local_lorentzian_regge_action_grad_built-requires c =
@@ -23,4 +23,4 @@ returns c =
     let a = c.args in
     let h = c.if-not-is_built_noting.false in
     let g = c.local_lorentzian_regge_action_grad_built.ensures in
-    record { answered = g.answered ∙ sym (others-decide a.counts (lists a.pents.now a.edges.now a.triangles.now a.tets.now a.tri_to_pents_items.now a.tri_to_pents_starts.now a.edge_to_tris_items.now a.edge_to_tris_starts.now a.edge_to_pents_items.now a.edge_to_pents_starts.now) (lengths_check_of a.counts (length a.sq_lengths.now) (free_check_of a.counts a.free_edges.now (room_check_of (ltb (length a.grad.now) (length a.free_edges.now))))) (sym c.is_built_noting.ensures.value ∙ h)); entries = g.entries }
+    record { answered = g.answered ∙ sym (others-decide a.complex.now.counts (lists_of a.complex.now) (lengths_check_of a.complex.now.counts (length a.sq_lengths.now) (free_check_of a.complex.now.counts a.free_edges.now (room_check_of (ltb (length a.grad.now) (length a.free_edges.now))))) (sym c.is_built_noting.ensures.value ∙ h)); entries = g.entries }

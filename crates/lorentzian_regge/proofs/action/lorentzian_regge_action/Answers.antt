@@ -1,20 +1,20 @@
 -- `lorentzian_regge::action::lorentzian_regge_action` meets its contract. Assumes nothing.
+use Rattle.refusals.specs.Refusals.{Done, answer_by}
 use mathlib.Core.Path.{sym, ap, ◌∙◌}
 use lib.ListN.{length}
 use Rattle.refusals.specs.declared.Outcome.TheVariants as Outcome
-use Rattle.complex.specs.Builder.{lists}
+use Rattle.complex.specs.Lent.{lists_of}
 use Rattle.comparison.proofs.Comparisons.{noted_of}
-use Rattle.hinges.specs.Hinges.{faces_in}
+use Rattle.hinges.specs.Hinges.{faces_of}
 use Rattle.hinges.specs.Action.{action}
 use Rattle.calls.specs.Calls.{lengths_check_of}
 use Rattle.calls.proofs.BuiltCalls.{not-built, others-decide}
-use Rattle.lorentzian_regge.specs.Answers.{action_by}
 use Rattle.lorentzian_regge.proofs.action.lorentzian_regge_action.Goals as goal
 
 pub returns-then-not-is_built_noting : goal.returns-then-not-is_built_noting
 returns-then-not-is_built_noting c =
     let a = c.args in
-    ap (λ o. action_by o (action (faces_in a.counts a.pents.now a.edges.now a.triangles.now) a.sq_lengths.now)) (sym (not-built a.counts (lists a.pents.now a.edges.now a.triangles.now a.tets.now a.tri_to_pents_items.now a.tri_to_pents_starts.now a.edge_to_tris_items.now a.edge_to_tris_starts.now a.edge_to_pents_items.now a.edge_to_pents_starts.now) (lengths_check_of a.counts (length a.sq_lengths.now) Outcome.Done) (sym c.is_built_noting.ensures.value ∙ c.if-not-is_built_noting.true)))
+    ap (λ o. answer_by o (action (faces_of a.complex.now) a.sq_lengths.now)) (sym (not-built a.complex.now.counts (lists_of a.complex.now) (lengths_check_of a.complex.now.counts (length a.sq_lengths.now) Done) (sym c.is_built_noting.ensures.value ∙ c.if-not-is_built_noting.true)))
 
 pub lorentzian_regge_action_built-requires : goal.lorentzian_regge_action_built-requires
 lorentzian_regge_action_built-requires c =
@@ -25,4 +25,4 @@ pub returns : goal.returns
 returns c =
     let a = c.args in
     let h = c.if-not-is_built_noting.false in
-    c.lorentzian_regge_action_built.ensures ∙ ap (λ o. action_by o (action (faces_in a.counts a.pents.now a.edges.now a.triangles.now) a.sq_lengths.now)) (sym (others-decide a.counts (lists a.pents.now a.edges.now a.triangles.now a.tets.now a.tri_to_pents_items.now a.tri_to_pents_starts.now a.edge_to_tris_items.now a.edge_to_tris_starts.now a.edge_to_pents_items.now a.edge_to_pents_starts.now) (lengths_check_of a.counts (length a.sq_lengths.now) Outcome.Done) (sym c.is_built_noting.ensures.value ∙ h)))
+    c.lorentzian_regge_action_built.ensures ∙ ap (λ o. answer_by o (action (faces_of a.complex.now) a.sq_lengths.now)) (sym (others-decide a.complex.now.counts (lists_of a.complex.now) (lengths_check_of a.complex.now.counts (length a.sq_lengths.now) Done) (sym c.is_built_noting.ensures.value ∙ h)))

@@ -9,7 +9,7 @@ use Rattle.lists.specs.Lists.{upto}
 use Rattle.lists.proofs.Rows.{length-rows}
 use Rattle.lists.proofs.Folds.{fold-upto}
 use Rattle.incidence.specs.Incidence.{edge_list}
-use Rattle.hinges.specs.Hinges.{FaceLists, faces_in, lengths_at}
+use Rattle.hinges.specs.Hinges.{FaceLists, lengths_at, faces_of}
 use Rattle.hinges.specs.Action.{tri_lengths, action_of}
 use Rattle.hinges.proofs.TriangleSteps.{edges-below}
 use Rattle.lorentzian_regge.proofs.action.sum_up.Invariants.{adds}
@@ -26,7 +26,7 @@ pub tri_sq_lengths-requires : goal.tri_sq_lengths-requires
 tri_sq_lengths-requires c =
     let a = c.args in
     let r = c.requires.0 in
-    edges-below a.counts a.pents.now a.edges.now a.triangles.now a.tri_to_pents_items.now a.tri_to_pents_starts.now a.pent_edges.now a.pent_tris.now (length a.sq_lengths.now) r c.loop-t.t c.loop-t-test.true (edge_list c.tri_edge_indices-own.result) c.tri_edge_indices-own.ensures (length a.sq_lengths.now) (omega (arith, r.passable.lengths))
+    edges-below a.complex.now.counts a.complex.now.pents.now a.complex.now.edges.now a.complex.now.triangles.now a.complex.now.tri_to_pents.items.now a.complex.now.tri_to_pents.starts.now a.incidence.now.pent_edges.now a.incidence.now.pent_tris.now (length a.sq_lengths.now) r c.loop-t.t c.loop-t-test.true (edge_list c.tri_edge_indices-own.result) c.tri_edge_indices-own.ensures (length a.sq_lengths.now) (omega (arith, r.passable.lengths))
 
 pub bounds-deficits-t : goal.bounds-deficits-t
 bounds-deficits-t c = omega (arith, c.requires.1, c.loop-t-test.true)
@@ -39,7 +39,7 @@ unfolding tri_lengths
 loop-t-preserved c =
     let a = c.args in
     let l = c.loop-t in
-    let F : FaceLists = faces_in a.counts a.pents.now a.edges.now a.triangles.now in
+    let F : FaceLists = faces_of a.complex.now in
     let s : c.tri_sq_lengths.result ≡ tri_lengths F a.sq_lengths.now l.t = c.tri_sq_lengths.ensures ∙ ap (lengths_at a.sq_lengths.now) c.tri_edge_indices-own.ensures in (
       omega arith,
       rw (c.abs_area-area.ensures, s, l.invariant.1) (sym (fold-upto (adds F a.sq_lengths.now a.deficits.now) zero l.t)),
@@ -50,6 +50,6 @@ unfolding action_of
 returns c =
     let a = c.args in
     let l = c.loop-t in
-    let F : FaceLists = faces_in a.counts a.pents.now a.edges.now a.triangles.now in
-    let e : l.t ≡ length F.triangles = omega (arith, length-rows 3 a.counts.triangles a.triangles.now) in
+    let F : FaceLists = faces_of a.complex.now in
+    let e : l.t ≡ length F.triangles = omega (arith, length-rows 3 a.complex.now.counts.triangles a.complex.now.triangles.now) in
     l.invariant.1 ∙ ap (λ (n : ℕ). foldl (adds F a.sq_lengths.now a.deficits.now) zero (upto n)) e

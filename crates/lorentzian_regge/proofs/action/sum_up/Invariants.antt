@@ -6,7 +6,7 @@ use lib.ListN.{get_or}
 use lib.Ieee.{Float, nan}
 use Rattle.floats.specs.Ops.{◌⊕◌, ◌⊗◌, zero}
 use Rattle.lists.specs.Lists.{upto}
-use Rattle.hinges.specs.Hinges.{FaceLists, faces_in}
+use Rattle.hinges.specs.Hinges.{FaceLists, faces_of}
 use Rattle.hinges.specs.Action.{tri_lengths, abs_area}
 use Rattle.lorentzian_regge.proofs.action.sum_up.Given as goal
 
@@ -15,7 +15,7 @@ abbrev pub adds : FaceLists → List Float → List Float → Float → ℕ → 
 adds F ls deficits sum t = sum ⊕ abs_area (tri_lengths F ls t) ⊗ get_or deficits t nan
 
 abbrev pub invariant-loop-t : goal.invariant-loop-t
-invariant-loop-t l = (l.t ≤ l.counts.triangles) × (l.action ≡ foldl (adds (faces_in l.counts l.pents l.edges l.triangles) l.sq_lengths l.deficits) zero (upto l.t))
+invariant-loop-t l = (l.t ≤ l.complex.counts.triangles) × (l.action ≡ foldl (adds (faces_of l.complex) l.sq_lengths l.deficits) zero (upto l.t))
 
 abbrev pub decreases-loop-t : goal.decreases-loop-t
-decreases-loop-t l = l.counts.triangles - l.t
+decreases-loop-t l = l.complex.counts.triangles - l.t

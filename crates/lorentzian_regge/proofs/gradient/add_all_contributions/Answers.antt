@@ -8,7 +8,7 @@ use Rattle.lists.specs.Lists.{gather, upto}
 use Rattle.lists.specs.Loops.{scatter}
 use Rattle.lists.proofs.Loops.{scatter-turn}
 use Rattle.incidence.specs.Incidence.{edge_list}
-use Rattle.hinges.specs.Hinges.{FaceLists, faces_in, lengths_at}
+use Rattle.hinges.specs.Hinges.{FaceLists, lengths_at, faces_of}
 use Rattle.hinges.specs.Action.{edges_at, tri_lengths, contributions_of, contributions}
 use Rattle.hinges.proofs.TriangleSteps.{edges-below}
 use Rattle.lorentzian_regge.proofs.gradient.add_all_contributions.Goals as goal
@@ -24,7 +24,7 @@ pub tri_sq_lengths-s-requires : goal.tri_sq_lengths-s-requires
 tri_sq_lengths-s-requires c =
     let a = c.args in
     let r = c.requires.0 in
-    edges-below a.counts a.pents.now a.edges.now a.triangles.now a.tri_to_pents_items.now a.tri_to_pents_starts.now a.pent_edges.now a.pent_tris.now (length a.sq_lengths.now) r c.loop-t.t c.loop-t-test.true (edge_list c.tri_edge_indices-own.result) c.tri_edge_indices-own.ensures (length a.sq_lengths.now) (omega (arith, r.passable.lengths))
+    edges-below a.complex.now.counts a.complex.now.pents.now a.complex.now.edges.now a.complex.now.triangles.now a.complex.now.tri_to_pents.items.now a.complex.now.tri_to_pents.starts.now a.incidence.now.pent_edges.now a.incidence.now.pent_tris.now (length a.sq_lengths.now) r c.loop-t.t c.loop-t-test.true (edge_list c.tri_edge_indices-own.result) c.tri_edge_indices-own.ensures (length a.sq_lengths.now) (omega (arith, r.passable.lengths))
 
 pub bounds-deficits-t : goal.bounds-deficits-t
 bounds-deficits-t c = omega (arith, c.requires.1, c.loop-t-test.true)
@@ -33,7 +33,7 @@ pub add_contributions-requires : goal.add_contributions-requires
 add_contributions-requires c =
     let a = c.args in
     let l = c.loop-t in
-    edges-below a.counts a.pents.now a.edges.now a.triangles.now a.tri_to_pents_items.now a.tri_to_pents_starts.now a.pent_edges.now a.pent_tris.now (length a.sq_lengths.now) c.requires.0 l.t c.loop-t-test.true (edge_list c.tri_edge_indices-own.result) c.tri_edge_indices-own.ensures (length l.grad) (omega (arith, c.requires.2, l.invariant.1))
+    edges-below a.complex.now.counts a.complex.now.pents.now a.complex.now.edges.now a.complex.now.triangles.now a.complex.now.tri_to_pents.items.now a.complex.now.tri_to_pents.starts.now a.incidence.now.pent_edges.now a.incidence.now.pent_tris.now (length a.sq_lengths.now) c.requires.0 l.t c.loop-t-test.true (edge_list c.tri_edge_indices-own.result) c.tri_edge_indices-own.ensures (length l.grad) (omega (arith, c.requires.2, l.invariant.1))
 
 pub overflow_add-t : goal.overflow_add-t
 overflow_add-t c = omega (arith, c.requires.0.few, c.loop-t-test.true)
@@ -46,7 +46,7 @@ loop-t-preserved c =
     let f = c.add_contributions in
     let own = c.tri_edge_indices-own in
     let s = c.tri_sq_lengths-s in
-    let F : FaceLists = faces_in a.counts a.pents.now a.edges.now a.triangles.now in
+    let F : FaceLists = faces_of a.complex.now in
     let ds = a.deficits.now in
     let e : contributions_of (edge_list own.result) s.result (get_or ds l.t nan) ≡ contributions F a.sq_lengths.now ds l.t =
     ap (λ es. contributions_of es s.result (get_or ds l.t nan)) own.ensures ∙ ap (λ u. contributions_of (edges_at F l.t) u (get_or ds l.t nan)) (s.ensures ∙ ap (lengths_at a.sq_lengths.now) own.ensures) in (
@@ -62,5 +62,5 @@ pub returns : goal.returns
 returns c =
     let a = c.args in
     let l = c.loop-t in
-    let e : l.t ≡ a.counts.triangles = omega arith in
+    let e : l.t ≡ a.complex.now.counts.triangles = omega arith in
     rw e at l.invariant.2

@@ -1,7 +1,7 @@
 -- `lorentzian_regge::gradient::lorentzian_regge_action_grad` meets its contract. Assumes nothing.
 use mathlib.Core.Path.{refl, sym, ◌∙◌}
 use lib.ListN.{length}
-use Rattle.complex.specs.Builder.{lists}
+use Rattle.complex.specs.Lent.{lists_of}
 use Rattle.comparison.proofs.Comparisons.{noted_of}
 use Rattle.calls.specs.Calls.{lengths_check_of, room_check_of}
 use Rattle.calls.proofs.BuiltCalls.{not-built, others-decide}
@@ -11,7 +11,7 @@ use Rattle.lorentzian_regge.proofs.gradient.lorentzian_regge_action_grad.Goals a
 pub returns-then-not-is_built_noting : goal.returns-then-not-is_built_noting
 returns-then-not-is_built_noting c =
     let a = c.args in
-    record { answered = sym (not-built a.counts (lists a.pents.now a.edges.now a.triangles.now a.tets.now a.tri_to_pents_items.now a.tri_to_pents_starts.now a.edge_to_tris_items.now a.edge_to_tris_starts.now a.edge_to_pents_items.now a.edge_to_pents_starts.now) (lengths_check_of a.counts (length a.sq_lengths.now) (room_check_of (short_gradient a.counts (length a.grad.now)))) (sym c.is_built_noting.ensures.value ∙ c.if-not-is_built_noting.true)); entries = refl }
+    record { answered = sym (not-built a.complex.now.counts (lists_of a.complex.now) (lengths_check_of a.complex.now.counts (length a.sq_lengths.now) (room_check_of (short_gradient a.complex.now.counts (length a.grad.now)))) (sym c.is_built_noting.ensures.value ∙ c.if-not-is_built_noting.true)); entries = refl }
 
 pub lorentzian_regge_action_grad_built-requires : goal.lorentzian_regge_action_grad_built-requires
 lorentzian_regge_action_grad_built-requires c =
@@ -23,4 +23,4 @@ returns c =
     let a = c.args in
     let h = c.if-not-is_built_noting.false in
     let g = c.lorentzian_regge_action_grad_built.ensures in
-    record { answered = g.answered ∙ sym (others-decide a.counts (lists a.pents.now a.edges.now a.triangles.now a.tets.now a.tri_to_pents_items.now a.tri_to_pents_starts.now a.edge_to_tris_items.now a.edge_to_tris_starts.now a.edge_to_pents_items.now a.edge_to_pents_starts.now) (lengths_check_of a.counts (length a.sq_lengths.now) (room_check_of (short_gradient a.counts (length a.grad.now)))) (sym c.is_built_noting.ensures.value ∙ h)); entries = g.entries }
+    record { answered = g.answered ∙ sym (others-decide a.complex.now.counts (lists_of a.complex.now) (lengths_check_of a.complex.now.counts (length a.sq_lengths.now) (room_check_of (short_gradient a.complex.now.counts (length a.grad.now)))) (sym c.is_built_noting.ensures.value ∙ h)); entries = g.entries }

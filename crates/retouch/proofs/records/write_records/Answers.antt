@@ -6,7 +6,7 @@ use Rattle.lists.specs.Writes.{writes}
 use Rattle.lists.proofs.Writes.{writes-next}
 use Rattle.lorentzian.specs.Dihedral.{kind_number}
 use Rattle.hinges.specs.declared.hinge.Hinge.{Hinge}
-use Rattle.hinges.specs.Hinges.{faces_in, hinges, hinge_in}
+use Rattle.hinges.specs.Hinges.{hinges, hinge_in, faces_of}
 use Rattle.retouch.proofs.records.write_records.Goals as goal
 
 pub loop-k-init : goal.loop-k-init
@@ -37,7 +37,7 @@ loop-k-preserved c =
     let l = c.loop-k in
     let h = c.hinge_at-hinge.ensures in
     let t = get_or a.tris.now l.k 0 in
-    let T = hinges (faces_in a.counts a.pents.now a.edges.now a.triangles.now) a.sq_lengths.now in (
+    let T = hinges (faces_of a.complex.now) a.sq_lengths.now in (
       omega (arith, c.loop-k-test.true),
       length-set l.deficits _ _ ∙ l.invariant.1,
       length-set l.kinds _ _ ∙ l.invariant.2,
@@ -59,7 +59,7 @@ pub returns : goal.returns
 returns c =
     let a = c.args in
     let l = c.loop-k in
-    let T = hinges (faces_in a.counts a.pents.now a.edges.now a.triangles.now) a.sq_lengths.now in
+    let T = hinges (faces_of a.complex.now) a.sq_lengths.now in
     let e : l.k ≡ a.count = omega arith in (
       l.invariant.3 ∙ ap (λ n. writes (λ t. (hinge_in T t).deficit) (take n a.tris.now) a.deficits.now) e,
       l.invariant.4 ∙ ap (λ n. writes (λ t. kind_number (hinge_in T t).kind) (take n a.tris.now) a.kinds.now) e,

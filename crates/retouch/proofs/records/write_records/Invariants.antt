@@ -4,13 +4,13 @@ use mathlib.Core.Path.{◌≡◌}
 use lib.ListN.{length, take}
 use Rattle.lists.specs.Writes.{writes}
 use Rattle.lorentzian.specs.Dihedral.{kind_number}
-use Rattle.hinges.specs.Hinges.{faces_in, hinges, hinge_in}
+use Rattle.hinges.specs.Hinges.{hinges, hinge_in, faces_of}
 use Rattle.retouch.proofs.records.write_records.Given as goal
 
 abbrev pub invariant-loop-k : goal.invariant-loop-k
 invariant-loop-k l = (l.k ≤ l.count) × (length l.deficits ≡ length l.initial.deficits) × (length l.kinds ≡ length l.initial.kinds)
-    × (l.deficits ≡ writes (λ t. (hinge_in (hinges (faces_in l.counts l.pents l.edges l.triangles) l.sq_lengths) t).deficit) (take l.k l.tris) l.initial.deficits)
-    × (l.kinds ≡ writes (λ t. kind_number (hinge_in (hinges (faces_in l.counts l.pents l.edges l.triangles) l.sq_lengths) t).kind) (take l.k l.tris) l.initial.kinds)
+    × (l.deficits ≡ writes (λ t. (hinge_in (hinges (faces_of l.complex) l.sq_lengths) t).deficit) (take l.k l.tris) l.initial.deficits)
+    × (l.kinds ≡ writes (λ t. kind_number (hinge_in (hinges (faces_of l.complex) l.sq_lengths) t).kind) (take l.k l.tris) l.initial.kinds)
 
 abbrev pub decreases-loop-k : goal.decreases-loop-k
 decreases-loop-k l = l.count - l.k
