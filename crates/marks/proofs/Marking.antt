@@ -1,4 +1,6 @@
 -- Marks: which numbers a list of marks has, and loops over them. Assumes nothing.
+use Rattle.std.specs.List.{count_by}
+use Rattle.std.proofs.lemmas.List.Sums.{count_by_more_yes, count_by_more_no}
 use Prim.Native.Nat.{ℕ, zero, suc, ◌+◌, ◌-◌, ◌≤◌, ◌<◌}
 use mathlib.Core.Bool.{Bool, true, false, true≢false, cond, ◌||◌}
 use mathlib.Core.List.Memᴰ
@@ -8,7 +10,6 @@ use mathlib.Core.Path.{◌≡◌, refl, sym, ap, ◌∙◌, subst}
 use native.Mathlib.Nat.{add-zero}
 use native.Mathlib.Numerals.{add-one}
 use native.Mathlib.Omega.{arith}
-use lib.Dec.{eqb}
 use lib.ListN.{length, get_or, set, take, replicate, drop, length-set, length-replicate, get_or-replicate, length-append, get_or-append}
 use lib.Seq.{get_or-set_same, get_or-set_other, lt-length-set, take-suc}
 use Rattle.lists.specs.Lists.{keep, gather, upto, among, Once}
@@ -145,6 +146,21 @@ marked-most marks (suc n) = go (get_or marks n false) refl (marked-most marks n)
     go : (b : Bool) → get_or marks n false ≡ b → length (marked_below n marks) ≤ n → length (marked_below (suc n) marks) ≤ suc n
     go true e r = omega (arith, ap (λ (k : ℕ). length (marked_below k marks)) (sym (add-one n)), ap length (step marks n true e), length-append (marked_below n marks) (n ∷ []))
     go false e r = omega (arith, ap (λ (k : ℕ). length (marked_below k marks)) (sym (add-one n)), ap length (marked-past marks n e))
+
+-- there are as many as there are marks
+pub marked-counted : (marks : List Bool) (n : ℕ) → n ≤ length marks → length (marked_below n marks) ≡ count_by (λ m. m) (take n marks)
+marked-counted marks zero h = rw (none_below marks) refl
+marked-counted marks (suc n) h = go (get_or marks n false) refl (marked-counted marks n (omega arith))
+  where
+    below : n < length marks
+    below = omega arith
+
+    next : length (marked_below (n + 1) marks) ≡ count_by (λ m. m) (take (n + 1) marks) → length (marked_below (suc n) marks) ≡ count_by (λ m. m) (take (suc n) marks)
+    next e = rw add-one at e
+
+    go : (b : Bool) → get_or marks n false ≡ b → length (marked_below n marks) ≡ count_by (λ m. m) (take n marks) → length (marked_below (suc n) marks) ≡ count_by (λ m. m) (take (suc n) marks)
+    go true e r = next (omega (arith, r, ap length (marked-here marks n e), length-append (marked_below n marks) (n ∷ []), count_by_more_yes (λ m. m) marks n false below e))
+    go false e r = next (omega (arith, r, ap length (marked-past marks n e), count_by_more_no (λ m. m) marks n false below e))
 
 -- ---- loops over marked numbers
 

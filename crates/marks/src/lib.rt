@@ -34,11 +34,7 @@ fn mark_met<'a>(adjacency: &AdjacencyList<'a>, free_edges: &'a [u32], marks: &mu
 }
 
 // Marks the triangles on free edges.
-pub fn mark_tris<'a>(
-    complex: &Complex<'a>,
-    free_edges: &'a [u32],
-    marks: &mut [bool],
-)
+pub fn mark_tris<'a>(complex: &Complex<'a>, free_edges: &'a [u32], marks: &mut [bool])
     requires { (IsHolding (triangles_of complex.now) (edges_of complex.now) complex.now.edge_to_tris)
         × Below free_edges.now complex.now.counts.edges × (complex.now.counts.triangles ≤ length marks.old) }
     ensures { marks.new ≡ marked (met (triangles_of complex.now) (edges_of complex.now) free_edges.now) marks.old }
@@ -47,11 +43,7 @@ pub fn mark_tris<'a>(
 }
 
 // Marks the pentachorons on free edges.
-pub fn mark_pents<'a>(
-    complex: &Complex<'a>,
-    free_edges: &'a [u32],
-    marks: &mut [bool],
-)
+pub fn mark_pents<'a>(complex: &Complex<'a>, free_edges: &'a [u32], marks: &mut [bool])
     requires { (IsHolding (pents_of complex.now) (edges_of complex.now) complex.now.edge_to_pents)
         × Below free_edges.now complex.now.counts.edges × (complex.now.counts.pentachorons ≤ length marks.old) }
     ensures { marks.new ≡ marked (met (pents_of complex.now) (edges_of complex.now) free_edges.now) marks.old }
