@@ -29,7 +29,7 @@ fn dihedral_in<'a>(
     let own = pent_edge_indices(complex, incidence, pent);
     let s = pent_sq_lengths(own, sq_lengths);
     let at = opposite_local_indices(complex, incidence, pent, tri);
-    dihedral_at(&s, at.l, at.m, compute_dihedral)
+    dihedral_at(&s, at.l, at.m, |c_lm, c_ll, c_mm| compute_dihedral(c_lm, c_ll, c_mm))
 }
 
 // The hinge of a triangle, from all pentachorons in which it lies.
