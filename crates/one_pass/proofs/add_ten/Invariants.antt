@@ -1,8 +1,8 @@
 -- `one_pass::add_ten` meets its contract. Assumes nothing.
-use Prim.Native.Nat.{ℕ, ◌-◌, ◌≤◌}
+use Prim.Native.Nat.{ℕ, ◌-◌}
 use mathlib.Core.Path.{◌≡◌}
 use mathlib.Core.List.{List, map}
-use lib.ListN.{length, get_or}
+use lib.ListN.{get_or}
 use lib.Ieee.{nan}
 use Rattle.lists.specs.Lists.{upto}
 use Rattle.lists.specs.Loops.{scatter}

@@ -1,5 +1,5 @@
 -- `one_pass::clear_kinds` meets its contract. Assumes nothing.
-use Rattle.std.proofs.Common.{◌≡◌, ◌∙◌, ap, ℕ, replicate, length, take, rules}
+use Rattle.std.proofs.Common.{◌≡◌, replicate, length, take, rules}
 use lib.ListN.{length-replicate}
 use lib.Seq.{length-take-le}
 use Rattle.lists.specs.Rows.{over}

@@ -1,8 +1,8 @@
 -- `one_pass::close_all` meets its contract. Assumes nothing.
-use Prim.Native.Nat.{ℕ, ◌-◌, ◌≤◌}
+use Prim.Native.Nat.{ℕ}
 use mathlib.Core.Path.{◌≡◌}
 use mathlib.Core.List.{List, ◌++◌, map}
-use lib.ListN.{length, get_or, drop}
+use lib.ListN.{get_or, drop}
 use lib.Ieee.{Float, nan}
 use Rattle.lists.specs.Lists.{upto}
 use Rattle.lorentzian.specs.Dihedral.{kind_number}
