@@ -24,14 +24,16 @@ use Rattle.complex.specs.declared.numbering.Face.TheVariants.{Edge, Triangle}
 use Rattle.complex.specs.Complex.{count_of, met_faces, faces, triangles, tri_to_pents}
 use Rattle.complex.specs.Builder.{Lists, too_large, repeats}
 use Rattle.complex.specs.Check.{pents_in, is_built}
+use Rattle.complex.specs.Lent.{lists_of}
 use Rattle.complex.proofs.Offences.{cond-done}
 use Rattle.complex.proofs.Meetings.{length-met}
 use Rattle.complex.proofs.Lying.{faces_has, edge-of-triangle}
 use Rattle.complex.proofs.Laws.{not-large}
 use Rattle.comparison.proofs.BuiltComplex.{IsBuilt, built-says, built-sorted, built-wide, built-edges, built-triangles, built-tri-to-pents, built_pent-edges, built_pent-tris, built-simplices, built-lie}
 use Rattle.hinges.specs.Hinges.{FaceLists, built_faces, faces_in, hinges, hinge_at}
-use Rattle.hinges.specs.Parts.{Measured}
+use Rattle.hinges.specs.Parts.{Measured, IsMeasured}
 use Rattle.hinges.proofs.OnePass.{built-one_pass}
+use Rattle.calls.specs.declared.built.BuiltComplex.{BuiltComplex}
 use Rattle.calls.specs.Calls.{BuiltWith, lengths_check_of, free_check_of, built_check_of, room_check_of, triangle_check_of}
 
 -- ---- a built complex
@@ -71,6 +73,10 @@ built-measured c l pe pt n w e =
       holders = built-tri-to-pents c l b;
       edges_found = λ r s m k. subst (λ (keys : List (List ℕ)). Memᴰ s keys) (sym (built-edges c l b)) (edge-of-triangle ps (built-sorted c l b) (subst (λ (ts : List (List ℕ)). Memᴰ r ts) (built-triangles c l b) m) k);
     }
+
+-- no more edges than numbers for them
+pub few-edges : (b : BuiltComplex) → b.complex.counts.edges ≤ 81920
+few-edges b = most-edges b.complex.counts (lists_of b.complex) (said (built-says b.complex.counts (lists_of b.complex)) b.built_with.built)
 
 -- its rows are those of the builder's complex
 pub built-faces : (c : Counts) (l : Lists) → IsBuilt c l → faces_in c l.pents l.edges l.triangles ≡ built_faces (pents_in c l.pents)
@@ -112,6 +118,10 @@ free-passed c free others h =
     let a = cond-done (too_large c.edges free) EdgeTooLarge _ h in
     let b = cond-done (repeats free) RepeatedEdge others a.1 in
     (a.0, b.0, b.1)
+
+-- what a call on a built complex has where the check of lengths lets it pass
+pub measured : (b : BuiltComplex) (n : ℕ) (others : Outcome) → lengths_check_of b.complex.counts n others ≡ Done → IsMeasured b.complex b.incidence n
+measured b n others h = built-measured b.complex.counts (lists_of b.complex) b.incidence.pent_edges.now b.incidence.pent_tris.now n b.built_with (lengths-passed b.complex.counts n others h).0
 
 module _ (c : Counts) (n : ℕ) (others : Outcome) where
   pub lengths-refused : {r : Refusal} → lengths_check_of c n Done ≡ Err r → lengths_check_of c n others ≡ Err r
@@ -171,3 +181,11 @@ not-built c l others e = rw e refl
 pub others-decide : (c : Counts) (l : Lists) (others : Outcome) → is_built c l ≡ true → built_check_of c l others ≡ others
 unfolding built_check_of
 others-decide c l others e = rw e refl
+
+pub built-refused : {r : Refusal} (c : Counts) (l : Lists) (others : Outcome) → built_check_of c l Done ≡ Err r → built_check_of c l others ≡ Err r
+unfolding built_check_of
+built-refused c l others h = cond-refused (not (is_built c l)) NotBuilt others h
+
+pub built-decided : (c : Counts) (l : Lists) (others : Outcome) → built_check_of c l Done ≡ Done → built_check_of c l others ≡ others
+unfolding built_check_of
+built-decided c l others h = cond-decided (not (is_built c l)) NotBuilt others h
