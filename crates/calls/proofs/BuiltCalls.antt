@@ -74,6 +74,9 @@ built-measured c l pe pt n w e =
       edges_found = λ r s m k. subst (λ (keys : List (List ℕ)). Memᴰ s keys) (sym (built-edges c l b)) (edge-of-triangle ps (built-sorted c l b) (subst (λ (ts : List (List ℕ)). Memᴰ r ts) (built-triangles c l b) m) k);
     }
 
+pub measured : (b : BuiltComplex) (n : ℕ) → n ≡ b.complex.counts.edges → IsMeasured b.complex b.incidence n
+measured b n e = built-measured b.complex.counts (lists_of b.complex) b.incidence.pent_edges.now b.incidence.pent_tris.now n b.built_with e
+
 -- no more edges than numbers for them
 pub few-edges : (b : BuiltComplex) → b.complex.counts.edges ≤ 81920
 few-edges b = most-edges b.complex.counts (lists_of b.complex) (said (built-says b.complex.counts (lists_of b.complex)) b.built_with.built)
@@ -118,10 +121,6 @@ free-passed c free others h =
     let a = cond-done (too_large c.edges free) EdgeTooLarge _ h in
     let b = cond-done (repeats free) RepeatedEdge others a.1 in
     (a.0, b.0, b.1)
-
--- what a call on a built complex has where the check of lengths lets it pass
-pub measured : (b : BuiltComplex) (n : ℕ) (others : Outcome) → lengths_check_of b.complex.counts n others ≡ Done → IsMeasured b.complex b.incidence n
-measured b n others h = built-measured b.complex.counts (lists_of b.complex) b.incidence.pent_edges.now b.incidence.pent_tris.now n b.built_with (lengths-passed b.complex.counts n others h).0
 
 module _ (c : Counts) (n : ℕ) (others : Outcome) where
   pub lengths-refused : {r : Refusal} → lengths_check_of c n Done ≡ Err r → lengths_check_of c n others ≡ Err r
