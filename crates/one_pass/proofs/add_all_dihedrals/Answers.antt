@@ -30,14 +30,14 @@ pent_tri_indices-tris-requires c = (c.requires.0.tri_numbers, c.loop-p-test.true
 pub pent_sq_lengths-s-requires : goal.pent_sq_lengths-s-requires
 pent_sq_lengths-s-requires c =
     let a = c.args in
-    own-edges a.complex.now.counts a.complex.now.pents.now a.complex.now.edges.now a.complex.now.triangles.now a.incidence.now.pent_edges.now a.incidence.now.pent_tris.now (length a.sq_lengths.now) c.requires.0 c.loop-p.p c.loop-p-test.true c.pent_edge_indices-own.result.now c.pent_edge_indices-own.ensures
+    own-edges c.requires.0 c.loop-p.p c.loop-p-test.true c.pent_edge_indices-own.result.now c.pent_edge_indices-own.ensures
 
 pub add_ten-requires : goal.add_ten-requires
 add_ten-requires c =
     let a = c.args in
     let r = c.requires in
     let l = c.loop-p in
-    let o = own-triangles a.complex.now.counts a.complex.now.pents.now a.complex.now.edges.now a.complex.now.triangles.now a.incidence.now.pent_edges.now a.incidence.now.pent_tris.now (length a.sq_lengths.now) r.0 l.p c.loop-p-test.true c.pent_tri_indices-tris.result.now c.pent_tri_indices-tris.ensures in
+    let o = own-triangles r.0 l.p c.loop-p-test.true c.pent_tri_indices-tris.result.now c.pent_tri_indices-tris.ensures in
     (o.0, o.1 (length l.sums) (omega (arith, r.1, l.invariant.1)), o.1 (length l.kinds) (omega (arith, r.2, l.invariant.2)))
 
 pub overflow_add-p : goal.overflow_add-p
@@ -55,7 +55,7 @@ loop-p-preserved c =
     let h = c.loop-p-test.true in
     let in_list : l.p < length (pents_of a.complex.now) = rw (length-rows 5 a.complex.now.counts.pentachorons a.complex.now.pents.now) h in
     let e : ten_events c.pent_tri_indices-tris.result.now c.ten_dihedrals.result ≡ dihedrals F a.sq_lengths.now p =
-    ten_events_lem F a.sq_lengths.now s.result p c.pent_tri_indices-tris.result.now c.ten_dihedrals.result (pent-five a.complex.now.counts a.complex.now.pents.now a.complex.now.edges.now a.complex.now.triangles.now a.incidence.now.pent_edges.now a.incidence.now.pent_tris.now (length a.sq_lengths.now) r l.p h) c.pent_tri_indices-tris.ensures
+    ten_events_lem F a.sq_lengths.now s.result p c.pent_tri_indices-tris.result.now c.ten_dihedrals.result (pent-five r l.p h) c.pent_tri_indices-tris.ensures
     (s.ensures ∙ ap (lengths_at a.sq_lengths.now) c.pent_edge_indices-own.ensures) c.ten_dihedrals.ensures in (
       omega arith,
       f.auto.sums ∙ l.invariant.1,
