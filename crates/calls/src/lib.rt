@@ -7,7 +7,7 @@ ghost use Rattle.std.specs.Prelude.{◌≡◌, ◌≤◌};
 ghost use Rattle.refusals.specs.Refusals.{Done};
 ghost use Rattle.calls.specs.Calls.{lengths_check_of, free_check_of, room_check_of, triangle_check_of};
 
-pub use built::BuiltComplex;
+pub use built::{BuiltComplex, check_noting};
 use complex::{Counts, too_large};
 use incidence::TriangleNumber;
 use marks::stands_twice;
