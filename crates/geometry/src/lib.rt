@@ -7,7 +7,7 @@ ghost use Rattle.std.specs.Float.{nan};
 ghost use Rattle.floats.specs.Algebra.{doubles};
 ghost use Rattle.geometry.specs.Determinant.{table, skip, minor, sign, det3, det4, det5, cofactor};
 ghost use Rattle.geometry.specs.CayleyMenger.{cm, cofactors};
-ghost use Rattle.geometry.specs.Answer.{cofactor_answer, refusal_of, value_or};
+ghost use Rattle.geometry.specs.Answer.{cofactor_answer};
 
 use refusals::Refusal;
 
@@ -119,35 +119,6 @@ fn det_5x5(m: [[f64; 5]; 5]) -> f64
 
 // ---- cofactors
 
-// A cofactor, or why there is none.
-#[derive(Clone, Copy)]
-pub enum Cofactor {
-    Done(f64),
-    Refused(Refusal),
-}
-
-impl Cofactor {
-    // The refusal's number, 0 for an answer.
-    pub fn number(self) -> u32
-        ensures { result ≡ refusal_of self }
-    {
-        match self {
-            Cofactor::Done(_) => 0,
-            Cofactor::Refused(refusal) => refusal.number(),
-        }
-    }
-
-    // The cofactor, or `other` for a refusal.
-    pub fn value_or(self, other: f64) -> f64
-        ensures { result ≡ value_or self other }
-    {
-        match self {
-            Cofactor::Done(value) => value,
-            Cofactor::Refused(_) => other,
-        }
-    }
-}
-
 // 1 where row + col is even, else -1.
 fn sign_of(row: usize, col: usize) -> f64
     requires { (row < 6) × (col < 6) }
@@ -157,22 +128,21 @@ fn sign_of(row: usize, col: usize) -> f64
 }
 
 // The cofactor of a row and a column that the matrix has.
-fn cofactor_at(m: [[f64; 6]; 6], row: usize, col: usize) -> f64
+pub fn cofactor_at(m: &[[f64; 6]; 6], row: usize, col: usize) -> f64
     requires { (row < 6) × (col < 6) }
-    ensures { result ≡ cofactor doubles m row col }
+    ensures { result ≡ cofactor doubles m.now row col }
 {
-    sign_of(row, col) * det_5x5(minor_6x6(m, row, col))
+    sign_of(row, col) * det_5x5(minor_6x6(*m, row, col))
 }
 
 // The (row, col) cofactor of a 6 × 6 matrix. Refused with 11 where either is above 5.
-pub fn cofactor_6x6(m: &[[f64; 6]; 6], row: usize, col: usize) -> Cofactor
+pub fn cofactor_6x6(m: &[[f64; 6]; 6], row: usize, col: usize) -> Result<f64, Refusal>
     ensures { result ≡ cofactor_answer m.now row col }
 {
     if 5 < row || 5 < col {
-        return Cofactor::Refused(Refusal::BadIndex);
+        return Err(Refusal::BadIndex);
     }
-    let rows = *m;
-    Cofactor::Done(cofactor_at(rows, row, col))
+    Ok(cofactor_at(m, row, col))
 }
 
 // ---- the Cayley-Menger matrix
@@ -197,20 +167,20 @@ pub fn cm_cofactors(s: &[f64; 10]) -> [f64; 15]
 {
     let m = cm_matrix_signed(s);
     [
-        cofactor_at(m, 1, 1),
-        cofactor_at(m, 1, 2),
-        cofactor_at(m, 1, 3),
-        cofactor_at(m, 1, 4),
-        cofactor_at(m, 1, 5),
-        cofactor_at(m, 2, 2),
-        cofactor_at(m, 2, 3),
-        cofactor_at(m, 2, 4),
-        cofactor_at(m, 2, 5),
-        cofactor_at(m, 3, 3),
-        cofactor_at(m, 3, 4),
-        cofactor_at(m, 3, 5),
-        cofactor_at(m, 4, 4),
-        cofactor_at(m, 4, 5),
-        cofactor_at(m, 5, 5),
+        cofactor_at(&m, 1, 1),
+        cofactor_at(&m, 1, 2),
+        cofactor_at(&m, 1, 3),
+        cofactor_at(&m, 1, 4),
+        cofactor_at(&m, 1, 5),
+        cofactor_at(&m, 2, 2),
+        cofactor_at(&m, 2, 3),
+        cofactor_at(&m, 2, 4),
+        cofactor_at(&m, 2, 5),
+        cofactor_at(&m, 3, 3),
+        cofactor_at(&m, 3, 4),
+        cofactor_at(&m, 3, 5),
+        cofactor_at(&m, 4, 4),
+        cofactor_at(&m, 4, 5),
+        cofactor_at(&m, 5, 5),
     ]
 }

@@ -2,7 +2,7 @@
 ghost use Rattle.std.specs.Prelude.{◌≡◌, ◌≢◌, false, ◌<◌};
 ghost use Rattle.lorentzian.specs.Triangle.{area_sq, area_sq_grad, edge_of, edge_idx, no_triangle, grad_in_pent, grad_outcome, grad_after};
 
-use refusals::{Outcome, Refusal};
+use refusals::Refusal;
 
 // Signed squared area of the triangle of three signed squared lengths.
 pub fn triangle_area_sq_lorentzian(s01: f64, s02: f64, s12: f64) -> f64
@@ -91,7 +91,7 @@ pub fn tri_area_sq_grad_in_pent(
     s: &[f64; 10],
     tri_local: [usize; 3],
     grad: &mut [f64; 10],
-) -> Outcome
+) -> Result<(), Refusal>
     ensures value { result ≡ grad_outcome tri_local }
     ensures grad_after { grad.new ≡ grad_after s.now tri_local grad.old }
 {
@@ -99,8 +99,8 @@ pub fn tri_area_sq_grad_in_pent(
     let b = tri_local[1];
     let c = tri_local[2];
     if no_triangle(a, b, c) {
-        return Outcome::Refused(Refusal::BadIndex);
+        return Err(Refusal::BadIndex);
     }
     *grad = grad_in_pent(s, a, b, c);
-    Outcome::Done
+    Ok(())
 }
