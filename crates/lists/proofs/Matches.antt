@@ -1,6 +1,8 @@
 -- Rows met in a list as it is: the list has them, or it begins with other rows. Assumes nothing.
 use Prim.Native.Nat.{ℕ, suc, ◌+◌, ◌*◌, ◌-◌, ◌≤◌, ◌<◌}
 use mathlib.Core.Path.{◌≡◌, refl, sym, ap, ◌∙◌, subst}
+use Rattle.std.specs.Prelude.{Some, None}
+use Rattle.std.proofs.lemmas.Option.{none-some}
 use mathlib.Core.Bool.{true, false}
 use mathlib.Core.List.{List, [], ◌∷◌, ◌++◌, foldl, foldl-append, append_assoc}
 use native.Mathlib.Numerals.{add-one}
@@ -10,7 +12,7 @@ use lib.Seq.{drop-drop, drop-set-lt, get_or_at, take_at}
 use Rattle.lists.specs.Keys.{eqs, find, meet}
 use Rattle.lists.specs.Rows.{rows}
 use Rattle.lists.specs.Chains.{hash, Met, Comparable, Stand, Compared}
-use Rattle.lists.proofs.Tests.{said, denied, not-both}
+use Rattle.lists.proofs.Tests.{said, denied}
 use Rattle.lists.proofs.Keys.{eqs-says, meet-new, fold-grows}
 use Rattle.lists.proofs.Rows.{length-rows, rows_snoc, rows_split, take-rows, row_below}
 use Rattle.lists.proofs.Chains.{met-old, met-new}
@@ -41,11 +43,11 @@ next-room w n m l f = row_below w n m (less l f)
 
 module _ (w : ℕ) (e h x u : List ℕ) (n m at k : ℕ) (s : List ℕ) (ok : Comparable w e h x u n m at 1) (is : k ≡ find s (rows w n e)) where
   -- it is known
-  pub compared-old : k < n → Compared w e h x u (set u at k) n m at (s ∷ []) (record { same = true; rows = n })
+  pub compared-old : k < n → Compared w e h x u (set u at k) n m at (s ∷ []) (Some n)
   compared-old l =
       record {
-        yes = λ t. (met-old w e h x u n at k s ok.indexed (omega (arith, ok.numbers)) is l, ok.known);
-        no = λ f. absurd (not-both refl f);
+        yes = (met-old w e h x u n at k s ok.indexed (omega (arith, ok.numbers)) is l, ok.known);
+        no = λ f. absurd (none-some n (sym f));
         kept = drop-set-lt (at + 1) u at k (omega arith);
       }
 
@@ -60,19 +62,19 @@ module _ (w : ℕ) (e h x u : List ℕ) (n m at k : ℕ) (s : List ℕ) (ok : Co
     count = ap length more ∙ length-append (rows w n e) (s ∷ []) ∙ omega (arith, length-rows w n e)
 
     -- it is a row too many
-    pub compared-full : n ≡ m → Compared w e h x u (set u at k) n m at (s ∷ []) (record { same = false; rows = n })
-    compared-full z = record { yes = λ t. absurd (not-both t refl); no = λ f st. omega (arith, count, st.few); kept = drop-set-lt (at + 1) u at k (omega arith) }
+    pub compared-full : n ≡ m → Compared w e h x u (set u at k) n m at (s ∷ []) None
+    compared-full z = record { yes = tt; no = λ f st. omega (arith, count, st.few); kept = drop-set-lt (at + 1) u at k (omega arith) }
 
     module _ (size : length s ≡ w) (other : n ≡ m → ⊥) where
       row : List ℕ
       row = take w (drop (w * n) e)
 
       -- row n of the list is another
-      pub compared-other : eqs s (take (length s) (drop (w * n) e)) ≡ false → Compared w e h x u (set u at k) n m at (s ∷ []) (record { same = false; rows = n })
+      pub compared-other : eqs s (take (length s) (drop (w * n) e)) ≡ false → Compared w e h x u (set u at k) n m at (s ∷ []) None
       unfolding row
       compared-other f =
           record {
-            yes = λ t. absurd (not-both t refl);
+            yes = tt;
             no =
                 λ z st.
                 let both : rows w n e ++ row ∷ [] ≡ rows w n e ++ s ∷ [] =
@@ -85,7 +87,7 @@ module _ (w : ℕ) (e h x u : List ℕ) (n m at k : ℕ) (s : List ℕ) (ok : Co
 
       -- row n of the list is it
       pub compared-new : eqs s (take (length s) (drop (w * n) e)) ≡ true
-          → Compared w e (set h (hash s) (n + 1)) (set x n (get_or h (hash s) 0)) u (set u at k) n m at (s ∷ []) (record { same = true; rows = n + 1 })
+          → Compared w e (set h (hash s) (n + 1)) (set x n (get_or h (hash s) 0)) u (set u at k) n m at (s ∷ []) (Some (n + 1))
       compared-new t =
           let here : s ≡ take (length s) (drop (w * n) e) = said (eqs-says s (take (length s) (drop (w * n) e))) t in
           let room : w * n + w ≤ w * m = next-room w n m ok.known other in
@@ -95,8 +97,8 @@ module _ (w : ℕ) (e h x u : List ℕ) (n m at k : ℕ) (s : List ℕ) (ok : Co
           ∙ ap (λ (l : List ℕ). take (w * n) e ++ l) (sym (take-append-drop (length s) (drop (w * n) e)) ∙ (λ i. sym here i ++ swap i))
           ∙ sym (append_assoc (take (w * n) e) s (drop (w * n + length s) e)) in
           record {
-            yes = λ z. (met-new w e h x u n at k s ok.indexed (omega (arith, ok.numbers)) is e size stored ge (omega (arith, ok.room)) (omega (arith, ok.links)), omega arith);
-            no = λ f. absurd (not-both refl f);
+            yes = (met-new w e h x u n at k s ok.indexed (omega (arith, ok.numbers)) is e size stored ge (omega (arith, ok.room)) (omega (arith, ok.links)), omega arith);
+            no = λ f. absurd (none-some (n + 1) (sym f));
             kept = drop-set-lt (at + 1) u at k (omega arith);
           }
         where

@@ -1,7 +1,6 @@
 -- Rows searched by chains, one chain for each value of a small hash, and numbered as they are met. Definitions only.
-use Rattle.std.specs.Prelude.{ℕ, ◌+◌, ◌*◌, ◌-◌, ◌%◌, ◌≤◌, ◌<◌, ◌≡◌, true, false, length, get_or, take, drop}
+use Rattle.std.specs.Prelude.{ℕ, ◌+◌, ◌*◌, ◌-◌, ◌%◌, ◌≤◌, ◌<◌, ◌≡◌, Option, None, IfSome, length, get_or, take, drop}
 use mathlib.Core.List.{List, [], ◌++◌, map, foldl}
-use Rattle.lists.specs.declared.matching.Match.{Match}
 use Rattle.lists.specs.Keys.{find, meet, Distinct}
 use Rattle.lists.specs.Rows.{rows}
 
@@ -62,8 +61,8 @@ pub record Stand (w : ℕ) (e : List ℕ) (m : ℕ) (ks : List (List ℕ)) : Typ
   pub few : length ks ≤ m
   pub same : rows w (length ks) e ≡ ks
 
--- the rows ts are met in e as it is, n of whose m rows are known: they are met, with nothing written, or e has other rows. In that case the chains, and the numbers before the end of those of ts, are left in some state
-pub record Compared (w : ℕ) (e h' x' u u' : List ℕ) (n m at : ℕ) (ts : List (List ℕ)) (r : Match) : Type 0 where
-  pub yes : r.same ≡ true → Met w e e h' x' u u' n at ts r.rows × (r.rows ≤ m)
-  pub no : r.same ≡ false → Stand w e m (foldl meet (rows w n e) ts) → ⊥
+-- the rows ts are met in e as it is, n of whose m rows are known: they are met, with nothing written, and then r rows of e are known; or e has other rows, and r is nothing. In that case the chains, and the numbers before the end of those of ts, are left in some state
+pub record Compared (w : ℕ) (e h' x' u u' : List ℕ) (n m at : ℕ) (ts : List (List ℕ)) (r : Option ℕ) : Type 0 where
+  pub yes : IfSome r (λ k. Met w e e h' x' u u' n at ts k × (k ≤ m))
+  pub no : r ≡ None → Stand w e m (foldl meet (rows w n e) ts) → ⊥
   pub kept : drop (at + length ts) u' ≡ drop (at + length ts) u

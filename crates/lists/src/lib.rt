@@ -7,5 +7,5 @@ mod matching;
 mod numbering;
 
 pub use groups::group;
-pub use matching::{Match, match_rows};
+pub use matching::match_rows;
 pub use numbering::{copy_row, meet_rows, same_row};

@@ -3,17 +3,10 @@ ghost use Rattle.std.specs.Prelude.{[], ◌∷◌, ◌*◌, ◌≤◌, length};
 ghost use Rattle.lists.specs.Rows.{rows};
 ghost use Rattle.lists.specs.Chains.{Comparable, Compared};
 
-use crate::numbering::{chain_of, find_row, same_row};
-
-// What a comparison says: whether the list has the rows that are met, and how many of its rows are known then.
-#[derive(Clone, Copy)]
-pub struct Match {
-    pub same: bool,
-    pub rows: usize,
-}
+use crate::numbering::{chain_of, find_row, link_row, same_row};
 
 // A row is met in a list of `most` rows as it is: it is one of the first n, or it has to be row n. Its number goes to
-// `numbers` at `at`.
+// `numbers` at `at`. Answers how many of its rows are known then, and nothing where the list has another row.
 fn match_row(
     list: &[u32],
     head: &mut [u32],
@@ -23,7 +16,7 @@ fn match_row(
     row: &[u32],
     numbers: &mut [u32],
     at: usize,
-) -> Match
+) -> Option<usize>
     requires { Comparable (length row.now) list.now head.old next.old numbers.old n most at 1 }
     ensures { Compared (length row.now) list.now head.new next.new numbers.old numbers.new n most at (row.now ∷ []) result }
 {
@@ -31,33 +24,20 @@ fn match_row(
     let k = find_row(list, head, next, n, row, chain);
     numbers[at] = k as u32;
     if k < n {
-        return Match {
-            same: true,
-            rows: n,
-        };
+        return Some(n);
     }
     if n == most {
-        return Match {
-            same: false,
-            rows: n,
-        };
+        return None;
     }
     if !same_row(list, row.len() * n, row) {
-        return Match {
-            same: false,
-            rows: n,
-        };
+        return None;
     }
-    next[n] = head[chain];
-    head[chain] = (n + 1) as u32;
-    Match {
-        same: true,
-        rows: n + 1,
-    }
+    link_row(head, next, n, chain);
+    Some(n + 1)
 }
 
 // The first `count` rows of w numbers in `given` are met, in order, in a list of `most` rows as it is. Their numbers go to
-// `numbers` from `at` on.
+// `numbers` from `at` on. Answers how many of its rows are known then, and nothing where the list has other rows.
 pub fn match_rows(
     list: &[u32],
     head: &mut [u32],
@@ -69,15 +49,14 @@ pub fn match_rows(
     count: usize,
     numbers: &mut [u32],
     at: usize,
-) -> Match
+) -> Option<usize>
     requires { (w * count ≤ length given.now) × Comparable w list.now head.old next.old numbers.old n most at count }
     ensures { Compared w list.now head.new next.new numbers.old numbers.new n most at (rows w count given.now) result }
 {
     let mut m = n;
-    let mut q = 0;
-    while q < count {
+    for q in 0..count {
         let from = w * q;
-        let met = match_row(
+        m = match_row(
             list,
             head,
             next,
@@ -86,15 +65,7 @@ pub fn match_rows(
             &given[from..from + w],
             numbers,
             at + q,
-        );
-        if !met.same {
-            return met;
-        }
-        m = met.rows;
-        q += 1;
+        )?;
     }
-    Match {
-        same: true,
-        rows: m,
-    }
+    Some(m)
 }

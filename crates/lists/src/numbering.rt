@@ -1,5 +1,5 @@
 // Rows of one width in a flat list. Each row is in the chain that its hash names, and a chain is walked from its last row.
-ghost use Rattle.std.specs.Prelude.{◌≡◌, [], ◌∷◌, ◌++◌, ◌+◌, ◌*◌, ◌≤◌, ◌<◌, length, take, drop};
+ghost use Rattle.std.specs.Prelude.{◌≡◌, [], ◌∷◌, ◌++◌, ◌+◌, ◌*◌, ◌≤◌, ◌<◌, length, slice_index, slice_set, take, drop};
 ghost use Rattle.lists.specs.Keys.{eqs, find};
 ghost use Rattle.lists.specs.Rows.{rows};
 ghost use Rattle.lists.specs.Chains.{hash, Indexed, Ready, Met};
@@ -9,10 +9,8 @@ pub fn chain_of(row: &[u32]) -> usize
     ensures { result ≡ hash row.now }
 {
     let mut h = 0;
-    let mut i = 0;
-    while i < row.len() {
-        h = (h * 3571 + row[i] as usize) % 32768;
-        i += 1;
+    for v in row {
+        h = (h * 3571 + *v as usize) % 32768;
     }
     h
 }
@@ -22,14 +20,7 @@ pub fn same_row(list: &[u32], at: usize, row: &[u32]) -> bool
     requires { at + length row.now ≤ length list.now }
     ensures { result ≡ eqs row.now (take (length row.now) (drop at list.now)) }
 {
-    let mut i = 0;
-    while i < row.len() {
-        if row[i] != list[at + i] {
-            return false;
-        }
-        i += 1;
-    }
-    true
+    row == &list[at..at + row.len()]
 }
 
 // The number of `row`, which is in this chain, among the first n rows of its width; n where it is not there.
@@ -61,11 +52,17 @@ pub fn copy_row(list: &mut [u32], at: usize, row: &[u32])
     requires { at + length row.now ≤ length list.old }
     ensures { list.new ≡ take at list.old ++ row.now ++ drop (at + length row.now) list.old }
 {
-    let mut i = 0;
-    while i < row.len() {
-        list[at + i] = row[i];
-        i += 1;
-    }
+    list[at..at + row.len()].copy_from_slice(row);
+}
+
+// Row n goes to the end of a chain, which is searched from its last row.
+pub fn link_row(head: &mut [u32], next: &mut [u32], n: usize, chain: usize)
+    requires { (chain < length head.old) × (n < length next.old) × (n < 1000000) }
+    ensures head { head.new ≡ slice_set head.old chain (n + 1) }
+    ensures next { next.new ≡ slice_set next.old n (slice_index head.old chain) }
+{
+    next[n] = head[chain];
+    head[chain] = (n + 1) as u32;
 }
 
 // A row is met: it becomes row n unless it is there already. Its number goes to `numbers` at `at`. Answers how many rows there are now.
@@ -88,8 +85,7 @@ fn meet_row(
         return n;
     }
     copy_row(list, row.len() * n, row);
-    next[n] = head[chain];
-    head[chain] = (n + 1) as u32;
+    link_row(head, next, n, chain);
     n + 1
 }
 
@@ -110,11 +106,9 @@ pub fn meet_rows(
     ensures { Met w list.old list.new head.new next.new numbers.old numbers.new n at (rows w count given.now) result }
 {
     let mut m = n;
-    let mut q = 0;
-    while q < count {
+    for q in 0..count {
         let from = w * q;
         m = meet_row(list, head, next, m, &given[from..from + w], numbers, at + q);
-        q += 1;
     }
     m
 }

@@ -1,27 +1,24 @@
--- `lists::numbering::chain_of` meets its contract. Assumes nothing.
-use Prim.Native.Nat.{ℕ}
-use mathlib.Core.Path.{refl, ap, ◌∙◌}
+-- `lists::numbering::chain_of` meets its contract. The loop's invariant: h is the hash of the numbers so far. Assumes nothing.
+use mathlib.Core.Path.{refl, ◌∙◌}
 use native.Mathlib.Omega.{arith}
-use lib.ListN.{get_or}
-use Rattle.lists.specs.Chains.{mix, hash}
-use Rattle.lists.proofs.Chains.{hash-snoc, hash-take}
+use lib.ListN.{take, get_or}
+use Rattle.lists.specs.Chains.{hash, mix}
+use Rattle.lists.proofs.Chains.{hash-below, hash-snoc, hash-take}
 use Rattle.lists.proofs.numbering.chain_of.Goals as goal
 
-pub loop-i-init : goal.loop-i-init
+pub loop-v-init : goal.loop-v-init
 unfolding hash
-loop-i-init c = (omega arith, omega arith, refl)
+loop-v-init c = refl
 
-pub overflow_cast-h : goal.overflow_cast-h
-overflow_cast-h c = omega (arith, c.type_inv.row c.loop-i.i)
+pub overflow_mul-h : goal.overflow_mul-h
+overflow_mul-h c = let l = c.loop-v in omega (arith, l.invariant, hash-below (take l.v-index c.args.row.now))
 
 pub overflow_add-h : goal.overflow_add-h
-overflow_add-h c = omega (arith, c.type_inv.row c.loop-i.i)
+overflow_add-h c =
+    let l = c.loop-v in omega (arith, l.invariant, hash-below (take l.v-index c.args.row.now), c.type_inv.row l.v-index)
 
-pub loop-i-preserved : goal.loop-i-preserved
-loop-i-preserved c =
-    let l = c.loop-i in
-    let s = c.args.row.now in
-    (omega arith, omega arith, ap (λ (h : ℕ). mix h (get_or s l.i 0)) l.invariant.2 ∙ hash-snoc s l.i (omega arith))
+pub loop-v-preserved : goal.loop-v-preserved
+loop-v-preserved c = let l = c.loop-v in rw l.invariant (hash-snoc c.args.row.now l.v-index (omega arith))
 
 pub returns : goal.returns
-returns c = let l = c.loop-i in l.invariant.2 ∙ hash-take c.args.row.now l.i (omega arith)
+returns c = let l = c.loop-v in l.invariant ∙ hash-take c.args.row.now l.v-index (omega arith)

@@ -1,12 +1,8 @@
--- `lists::numbering::chain_of` meets its contract. Assumes nothing.
-use Prim.Native.Nat.{◌-◌, ◌≤◌, ◌<◌}
+-- `lists::numbering::chain_of` meets its contract. The loop's invariant: h is the hash of the numbers so far. Assumes nothing.
 use mathlib.Core.Path.{◌≡◌}
-use lib.ListN.{length, take}
+use lib.ListN.{take}
 use Rattle.lists.specs.Chains.{hash}
 use Rattle.lists.proofs.numbering.chain_of.Given as goal
 
-abbrev pub invariant-loop-i : goal.invariant-loop-i
-invariant-loop-i l = (l.i ≤ length l.row) × (l.h < 32768) × (l.h ≡ hash (take l.i l.row))
-
-abbrev pub decreases-loop-i : goal.decreases-loop-i
-decreases-loop-i l = length l.row - l.i
+abbrev pub invariant-loop-v : goal.invariant-loop-v
+invariant-loop-v l = l.h ≡ hash (take l.v-index l.row)
