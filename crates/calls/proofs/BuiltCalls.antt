@@ -11,7 +11,7 @@ use lib.Ieee.{Float}
 use lib.ListN.{length}
 use borrow.Author.Tests.{eqb-true, ltb-true, not-false}
 use Rattle.refusals.specs.declared.Refusal.{Refusal}
-use Rattle.refusals.specs.declared.Refusal.TheVariants.{ShortRoom, NotBuilt, LengthCount, BadIndex}
+use Rattle.refusals.specs.declared.Refusal.TheVariants.{ShortRoom, NotBuilt, LengthCount, EdgeTooLarge, RepeatedEdge, BadIndex}
 use Rattle.lists.specs.Lists.{upto}
 use Rattle.lists.specs.Groups.{Below}
 use Rattle.lists.proofs.Tests.{said}
@@ -22,7 +22,7 @@ use Rattle.complex.specs.declared.Counts.{Counts}
 use Rattle.complex.specs.declared.numbering.Face.{Face}
 use Rattle.complex.specs.declared.numbering.Face.TheVariants.{Edge, Triangle}
 use Rattle.complex.specs.Complex.{count_of, met_faces, faces, triangles, tri_to_pents}
-use Rattle.complex.specs.Builder.{Lists, too_large}
+use Rattle.complex.specs.Builder.{Lists, too_large, repeats}
 use Rattle.complex.specs.Check.{pents_in, is_built}
 use Rattle.complex.proofs.Offences.{cond-done}
 use Rattle.complex.proofs.Meetings.{length-met}
@@ -32,7 +32,7 @@ use Rattle.comparison.proofs.BuiltComplex.{IsBuilt, built-says, built-sorted, bu
 use Rattle.hinges.specs.Hinges.{FaceLists, built_faces, faces_in, hinges, hinge_at}
 use Rattle.hinges.specs.Parts.{Measured}
 use Rattle.hinges.proofs.OnePass.{built-one_pass}
-use Rattle.calls.specs.Calls.{BuiltWith, lengths_check_of, built_check_of, room_check_of, triangle_check_of}
+use Rattle.calls.specs.Calls.{BuiltWith, lengths_check_of, free_check_of, built_check_of, room_check_of, triangle_check_of}
 
 -- ---- a built complex
 
@@ -85,11 +85,55 @@ built-table c l ls h =
 
 -- ---- what the other checks say
 
+-- an outcome is not both
+pub done-not-refused : {r : Refusal} → Done ≡ Err r → ⊥
+done-not-refused e = let z : ◌≡◌ {A = ℕ} 0 1 = cc in omega arith
+
+-- a check that refuses does so whatever the checks after it say
+pub cond-refused : {r : Refusal} (b : Bool) (e : Refusal) (others : Outcome) → cond b (Err e) Done ≡ Err r → cond b (Err e) others ≡ Err r
+cond-refused true e others h = h
+cond-refused false e others h = absurd (done-not-refused h)
+
+-- where it lets a call pass, they decide
+pub cond-decided : (b : Bool) (e : Refusal) (others : Outcome) → cond b (Err e) Done ≡ Done → cond b (Err e) others ≡ others
+cond-decided true e others h = absurd (done-not-refused (sym h))
+cond-decided false e others h = refl
+
 pub lengths-passed : (c : Counts) (n : ℕ) (others : Outcome) → lengths_check_of c n others ≡ Done → (n ≡ c.edges) × (others ≡ Done)
 unfolding lengths_check_of
 lengths-passed c n others h =
     let s = cond-done (not (eqb n c.edges)) LengthCount others h in
     (eqb-true n c.edges (not-false (eqb n c.edges) s.0), s.1)
+
+-- where the check of free edges lets a call pass
+pub free-passed : (c : Counts) (free : List ℕ) (others : Outcome) → free_check_of c free others ≡ Done → (too_large c.edges free ≡ false) × (repeats free ≡ false) × (others ≡ Done)
+unfolding free_check_of
+free-passed c free others h =
+    let a = cond-done (too_large c.edges free) EdgeTooLarge _ h in
+    let b = cond-done (repeats free) RepeatedEdge others a.1 in
+    (a.0, b.0, b.1)
+
+module _ (c : Counts) (n : ℕ) (others : Outcome) where
+  pub lengths-refused : {r : Refusal} → lengths_check_of c n Done ≡ Err r → lengths_check_of c n others ≡ Err r
+  unfolding lengths_check_of
+  lengths-refused h = cond-refused (not (eqb n c.edges)) LengthCount others h
+
+  pub lengths-decided : lengths_check_of c n Done ≡ Done → lengths_check_of c n others ≡ others
+  unfolding lengths_check_of
+  lengths-decided h = cond-decided (not (eqb n c.edges)) LengthCount others h
+
+module _ (c : Counts) (free : List ℕ) (others : Outcome) where
+  pub free-refused : {r : Refusal} → free_check_of c free Done ≡ Err r → free_check_of c free others ≡ Err r
+  unfolding free_check_of
+  free-refused {r} h = go (too_large c.edges free) (repeats free) h
+    where
+      go : (x y : Bool) → cond x (Err EdgeTooLarge) (cond y (Err RepeatedEdge) Done) ≡ Err r → cond x (Err EdgeTooLarge) (cond y (Err RepeatedEdge) others) ≡ Err r
+      go true y e = e
+      go false y e = cond-refused y RepeatedEdge others e
+
+  pub free-decided : free_check_of c free Done ≡ Done → free_check_of c free others ≡ others
+  unfolding free_check_of
+  free-decided h = let p = free-passed c free Done h in rw (p.0, p.1) refl
 
 pub room-passed : (short : Bool) → room_check_of short ≡ Done → short ≡ false
 unfolding room_check_of
@@ -103,10 +147,6 @@ room-short = refl
 pub room-enough : room_check_of false ≡ Done
 unfolding room_check_of
 room-enough = refl
-
--- an outcome is not both
-pub done-not-refused : {r : Refusal} → Done ≡ Err r → ⊥
-done-not-refused e = let z : ◌≡◌ {A = ℕ} 0 1 = cc in omega arith
 
 pub triangle-passed : (c : Counts) (t : ℕ) → triangle_check_of c t ≡ Done → t < c.triangles
 unfolding triangle_check_of
