@@ -84,8 +84,8 @@ fn write_records<'a>(
         × Below tris.now complex.now.counts.triangles × (complex.now.counts.triangles ≤ length table.old) }
     ensures { table.new ≡ writes (hinge_in (hinges (faces_of complex.now) sq_lengths.now)) tris.now table.old }
 {
-    for tri in tris {
-        table[*tri as usize] = hinge_at(complex, incidence, sq_lengths, TriangleNumber(*tri));
+    for &tri in tris {
+        table[tri as usize] = hinge_at(complex, incidence, sq_lengths, TriangleNumber(tri));
     }
 }
 

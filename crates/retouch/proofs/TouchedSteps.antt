@@ -11,6 +11,7 @@ use lib.Dec.{ltb}
 use lib.ListN.{length, get_or, take, replicate}
 use lib.Seq.{take-suc}
 use borrow.Author.Tests.{ltb-true, ltb-false}
+use Rattle.refusals.specs.declared.Refusal.{Refusal}
 use Rattle.refusals.specs.declared.Refusal.TheVariants.{EdgeTooLarge}
 use Rattle.lists.specs.Lists.{gather}
 use Rattle.lists.specs.Rows.{over}
@@ -56,7 +57,7 @@ triangles-below c pents triangles found p inside own e m h =
 -- ---- marks
 
 -- the marked triangles are those of the pentachorons that contain the edge
-pub marks-touched : (c : Counts) (pents edges triangles : List ℕ) (e m : ℕ) → c.triangles ≤ m → (marks : List ℕ) → marks ≡ marked (around (faces_in c pents edges triangles) e) (replicate m 0)
+pub marks-touched : (c : Counts) (pents edges triangles : List ℕ) (e m : ℕ) → c.triangles ≤ m → (marks : List Bool) → marks ≡ marked (around (faces_in c pents edges triangles) e) (replicate m false)
     → marked_below c.triangles marks ≡ touched (faces_in c pents edges triangles) e
 marks-touched c pents edges triangles e m h marks is =
     let own = around (faces_in c pents edges triangles) e in
@@ -69,7 +70,7 @@ module _ (c : Counts) (pents edges triangles : List ℕ) (e : ℕ) where
   own = touched (faces_in c pents edges triangles) e
 
   -- the same, in a list with a mark for each triangle
-  touched-marks : marked_below c.triangles (marked (around (faces_in c pents edges triangles) e) (replicate c.triangles 0)) ≡ own
+  touched-marks : marked_below c.triangles (marked (around (faces_in c pents edges triangles) e) (replicate c.triangles false)) ≡ own
   touched-marks = marks-touched c pents edges triangles e c.triangles (omega arith) _ refl
 
   -- there are no more than triangles
@@ -78,9 +79,27 @@ module _ (c : Counts) (pents edges triangles : List ℕ) (e : ℕ) where
 
   -- one that was listed is below their count
   pub touched-below : (old new : List ℕ) → new ≡ over own old → (k : ℕ) → k < length own → get_or new k 0 < c.triangles
-  touched-below old new is k h = listed_below c.triangles (marked (around (faces_in c pents edges triangles) e) (replicate c.triangles 0)) old new (rw touched-marks is) k (rw touched-marks h)
+  touched-below old new is k h = listed_below c.triangles (marked (around (faces_in c pents edges triangles) e) (replicate c.triangles false)) old new (rw touched-marks is) k (rw touched-marks h)
 
 -- ---- checks
+
+-- what the check of the edge refuses, it refuses before the other checks
+pub edge-refused : (c : Counts) (e : ℕ) (others : Outcome) {r : Refusal} → edge_check_of c e Done ≡ Err r → edge_check_of c e others ≡ Err r
+unfolding edge_check_of
+edge-refused c e others h = go (ltb e c.edges) h
+  where
+    go : (b : Bool) {r : Refusal} → cond b Done (Err EdgeTooLarge) ≡ Err r → cond b others (Err EdgeTooLarge) ≡ Err r
+    go true h = absurd (done-not-refused h)
+    go false h = h
+
+-- what it lets pass, the other checks decide
+pub edge-decided : (c : Counts) (e : ℕ) (others : Outcome) → edge_check_of c e Done ≡ Done → edge_check_of c e others ≡ others
+unfolding edge_check_of
+edge-decided c e others h = go (ltb e c.edges) h
+  where
+    go : (b : Bool) → cond b Done (Err EdgeTooLarge) ≡ Done → cond b others (Err EdgeTooLarge) ≡ others
+    go true h = refl
+    go false h = absurd (done-not-refused (sym h))
 
 -- where the check of the edge lets a call pass
 edge-passed : (c : Counts) (e : ℕ) (others : Outcome) → edge_check_of c e others ≡ Done → (e < c.edges) × (others ≡ Done)

@@ -25,9 +25,9 @@ pub fn write_records<'a>(
     ensures { (deficits.new ≡ writes (λ t. (hinge_in (hinges (faces_of complex.now) sq_lengths.now) t).deficit) tris.now deficits.old)
         × (kinds.new ≡ writes (λ t. kind_number (hinge_in (hinges (faces_of complex.now) sq_lengths.now) t).kind) tris.now kinds.old) }
 {
-    for tri in tris {
-        let hinge = hinge_at(complex, incidence, sq_lengths, TriangleNumber(*tri));
-        deficits[*tri as usize] = hinge.deficit;
-        kinds[*tri as usize] = hinge.kind.number();
+    for &tri in tris {
+        let hinge = hinge_at(complex, incidence, sq_lengths, TriangleNumber(tri));
+        deficits[tri as usize] = hinge.deficit;
+        kinds[tri as usize] = hinge.kind.number();
     }
 }

@@ -29,7 +29,7 @@ fn mark_touched<'a>(
     complex: &Complex<'a>,
     incidence: &Incidence<'a>,
     edge: EdgeNumber,
-    marks: &mut [u8],
+    marks: &mut [bool],
 )
     requires { (IsHolding (pents_of complex.now) (edges_of complex.now) complex.now.edge_to_pents)
         × HasTriangleNumbers complex.now incidence.now
@@ -38,8 +38,8 @@ fn mark_touched<'a>(
     ensures { marks.new ≡ marked (around (faces_of complex.now) edge.0) marks.old }
 {
     let holders = pents_of_edge(complex, edge);
-    for holder in holders {
-        let tris = pent_tri_indices(complex, incidence, PentachoronNumber(*holder));
+    for &holder in holders {
+        let tris = pent_tri_indices(complex, incidence, PentachoronNumber(holder));
         mark_all(tris, marks);
     }
 }
@@ -58,7 +58,7 @@ pub fn list_touched<'a>(
     ensures { (result ≡ length (touched (faces_of complex.now) edge.0))
         × (tris.new ≡ over (touched (faces_of complex.now) edge.0) tris.old) }
 {
-    let mut marks = [0u8; 81920];
+    let mut marks = [false; 81920];
     mark_touched(complex, incidence, edge, &mut marks);
     list_marked(complex.counts.triangles, &marks, tris);
     count_marked(complex.counts.triangles, &marks)
