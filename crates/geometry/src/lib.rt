@@ -2,10 +2,10 @@
 // lengths, in the Rust's order of operations. A matrix is an array of rows.
 #![tactic(auto)]
 
-ghost use Rattle.std.specs.Prelude.{◌≡◌, ◌+◌, ◌<◌, ◌≤◌, get_or};
+ghost use Rattle.std.specs.Prelude.{◌≡◌, ◌+◌, ◌<◌, ◌≤◌, ℕ, List, [], get_or, Float};
 ghost use Rattle.std.specs.Float.{nan};
 ghost use Rattle.floats.specs.Algebra.{doubles};
-ghost use Rattle.geometry.specs.Determinant.{table, skip, minor, sign, det3, det4, det5, cofactor};
+ghost use Rattle.geometry.specs.Determinant.{table, at, skip, minor, sign, det3, GivesMinors, expand, det4, det5, cofactor};
 ghost use Rattle.geometry.specs.CayleyMenger.{cm, cofactors};
 ghost use Rattle.geometry.specs.Answer.{cofactor_answer};
 
@@ -21,103 +21,37 @@ fn skip_one(r: usize, i: usize) -> usize
     if i < r { i } else { i + 1 }
 }
 
-// A row of a 4 × 4 matrix without its entry j.
-fn row_4(x: [f64; 4], j: usize) -> [f64; 3]
-    ensures { result ≡ table 3 (λ i. get_or x (skip j i) nan) }
+// A row without its entry j; a number above M leaves out the last.
+fn row_without<const N: usize, const M: usize>(x: &[f64; N], j: usize) -> [f64; M]
+    requires { (N ≡ M + 1) × (M < 6) }
+    ensures { result ≡ table M (λ i. get_or x.now (skip j i) nan) }
 {
-    [x[skip_one(j, 0)], x[skip_one(j, 1)], x[skip_one(j, 2)]]
+    std::array::from_fn(
+        |i|
+            requires { (i + 1 < N) × (i < 5) }
+            ensures { result ≡ get_or x.entry.now (skip j i) nan }
+        { x[skip_one(j, i)] },
+    )
 }
 
-// A row of a 5 × 5 matrix without its entry j.
-fn row_5(x: [f64; 5], j: usize) -> [f64; 4]
-    ensures { result ≡ table 4 (λ i. get_or x (skip j i) nan) }
+// A matrix without a row and a column; a number above M leaves out the last.
+fn minor_of<const N: usize, const M: usize>(
+    m: &[[f64; N]; N],
+    row: usize,
+    col: usize,
+) -> [[f64; M]; M]
+    requires { (N ≡ M + 1) × (M < 6) }
+    ensures { result ≡ minor doubles M m.now row col }
 {
-    [
-        x[skip_one(j, 0)],
-        x[skip_one(j, 1)],
-        x[skip_one(j, 2)],
-        x[skip_one(j, 3)],
-    ]
-}
-
-// A row of a 6 × 6 matrix without its entry j.
-fn row_6(x: [f64; 6], j: usize) -> [f64; 5]
-    ensures { result ≡ table 5 (λ i. get_or x (skip j i) nan) }
-{
-    [
-        x[skip_one(j, 0)],
-        x[skip_one(j, 1)],
-        x[skip_one(j, 2)],
-        x[skip_one(j, 3)],
-        x[skip_one(j, 4)],
-    ]
-}
-
-// A 4 × 4 matrix without its first row and the column j.
-fn minor_4x4(m: [[f64; 4]; 4], j: usize) -> [[f64; 3]; 3]
-    ensures { result ≡ minor doubles 3 m 0 j }
-{
-    [row_4(m[1], j), row_4(m[2], j), row_4(m[3], j)]
-}
-
-// A 5 × 5 matrix without its first row and the column j.
-fn minor_5x5(m: [[f64; 5]; 5], j: usize) -> [[f64; 4]; 4]
-    ensures { result ≡ minor doubles 4 m 0 j }
-{
-    [
-        row_5(m[1], j),
-        row_5(m[2], j),
-        row_5(m[3], j),
-        row_5(m[4], j),
-    ]
-}
-
-// A 6 × 6 matrix without a row and a column; a number above 5 leaves out the last.
-fn minor_6x6(m: [[f64; 6]; 6], row: usize, col: usize) -> [[f64; 5]; 5]
-    ensures { result ≡ minor doubles 5 m row col }
-{
-    [
-        row_6(m[skip_one(row, 0)], col),
-        row_6(m[skip_one(row, 1)], col),
-        row_6(m[skip_one(row, 2)], col),
-        row_6(m[skip_one(row, 3)], col),
-        row_6(m[skip_one(row, 4)], col),
-    ]
+    std::array::from_fn(
+        |i|
+            requires { (i < M) × (N ≡ M + 1) × (M < 6) }
+            ensures { result ≡ table M (λ j. at doubles m.entry.now (skip row i) (skip col j)) }
+        { row_without(&m[skip_one(row, i)], col) },
+    )
 }
 
 // ---- determinants
-
-// Determinant of a 3 × 3 matrix.
-fn det_3x3(m: [[f64; 3]; 3]) -> f64
-    ensures { result ≡ det3 doubles m }
-{
-    m[0][0] * (m[1][1] * m[2][2] - m[1][2] * m[2][1])
-        - m[0][1] * (m[1][0] * m[2][2] - m[1][2] * m[2][0])
-        + m[0][2] * (m[1][0] * m[2][1] - m[1][1] * m[2][0])
-}
-
-// Determinant of a 4 × 4 matrix.
-fn det_4x4(m: [[f64; 4]; 4]) -> f64
-    ensures { result ≡ det4 doubles m }
-{
-    let d0 = 0.0 + 1.0 * m[0][0] * det_3x3(minor_4x4(m, 0));
-    let d1 = d0 + -1.0 * m[0][1] * det_3x3(minor_4x4(m, 1));
-    let d2 = d1 + 1.0 * m[0][2] * det_3x3(minor_4x4(m, 2));
-    d2 + -1.0 * m[0][3] * det_3x3(minor_4x4(m, 3))
-}
-
-// Determinant of a 5 × 5 matrix.
-fn det_5x5(m: [[f64; 5]; 5]) -> f64
-    ensures { result ≡ det5 doubles m }
-{
-    let d0 = 0.0 + 1.0 * m[0][0] * det_4x4(minor_5x5(m, 0));
-    let d1 = d0 + -1.0 * m[0][1] * det_4x4(minor_5x5(m, 1));
-    let d2 = d1 + 1.0 * m[0][2] * det_4x4(minor_5x5(m, 2));
-    let d3 = d2 + -1.0 * m[0][3] * det_4x4(minor_5x5(m, 3));
-    d3 + 1.0 * m[0][4] * det_4x4(minor_5x5(m, 4))
-}
-
-// ---- cofactors
 
 // 1 where row + col is even, else -1.
 fn sign_of(row: usize, col: usize) -> f64
@@ -127,12 +61,50 @@ fn sign_of(row: usize, col: usize) -> f64
     if (row + col) % 2 == 0 { 1.0 } else { -1.0 }
 }
 
+// The expansion along a row, where `minor` gives the determinant of the minor of each column.
+fn expand<const N: usize, D: Fn(usize) -> f64>(row: &[f64; N], minor: D) -> f64
+    requires small { N < 7 }
+    requires callable { (col : ℕ) → col < N → D.pre minor col }
+    ensures { (m : List (List Float)) (f : List (List Float) → Float) (n : ℕ) → get_or m 0 [] ≡ row.now → GivesMinors (D.post minor) f n m N → result ≡ expand doubles f n m N }
+{
+    let mut sum = 0.0;
+    for col in 0..N {
+        sum += sign_of(0, col) * row[col] * minor(col);
+    }
+    sum
+}
+
+// Determinant of a 3 × 3 matrix.
+fn det_3x3(m: &[[f64; 3]; 3]) -> f64
+    ensures { result ≡ det3 doubles m.now }
+{
+    m[0][0] * (m[1][1] * m[2][2] - m[1][2] * m[2][1])
+        - m[0][1] * (m[1][0] * m[2][2] - m[1][2] * m[2][0])
+        + m[0][2] * (m[1][0] * m[2][1] - m[1][1] * m[2][0])
+}
+
+// Determinant of a 4 × 4 matrix.
+fn det_4x4(m: &[[f64; 4]; 4]) -> f64
+    ensures { result ≡ det4 doubles m.now }
+{
+    expand(&m[0], |col| det_3x3(&minor_of(m, 0, col)))
+}
+
+// Determinant of a 5 × 5 matrix.
+fn det_5x5(m: &[[f64; 5]; 5]) -> f64
+    ensures { result ≡ det5 doubles m.now }
+{
+    expand(&m[0], |col| det_4x4(&minor_of(m, 0, col)))
+}
+
+// ---- cofactors
+
 // The cofactor of a row and a column that the matrix has.
 pub fn cofactor_at(m: &[[f64; 6]; 6], row: usize, col: usize) -> f64
     requires { (row < 6) × (col < 6) }
     ensures { result ≡ cofactor doubles m.now row col }
 {
-    sign_of(row, col) * det_5x5(minor_6x6(*m, row, col))
+    sign_of(row, col) * det_5x5(&minor_of(m, row, col))
 }
 
 // The (row, col) cofactor of a 6 × 6 matrix. Refused with 11 where either is above 5.

@@ -67,6 +67,7 @@ impl Dihedral {
 // ---- what both rules share
 
 // Minus c_lm over the root of the product, its sign turned where c_ll is negative.
+#[tactic(auto, unfolding(crate::specs::Dihedral::ratio_of))]
 fn ratio_of(c_lm: f64, c_ll: f64, denom: f64) -> f64
     ensures { result ≡ ratio_of c_lm c_ll denom }
 {
@@ -75,6 +76,7 @@ fn ratio_of(c_lm: f64, c_ll: f64, denom: f64) -> f64
 }
 
 // The dihedral of a ratio, where both cofactors have the same sign.
+#[tactic(auto, unfolding(crate::specs::Dihedral::of_ratio))]
 fn of_ratio(ratio: f64) -> Dihedral
     ensures { result ≡ of_ratio ratio }
 {
@@ -85,6 +87,7 @@ fn of_ratio(ratio: f64) -> Dihedral
 }
 
 // The dihedral where the product is not positive.
+#[tactic(auto, unfolding(crate::specs::Dihedral::of_mixed))]
 fn of_mixed(c_lm: f64, denom: f64) -> Dihedral
     ensures { result ≡ of_mixed c_lm denom }
 {
@@ -94,6 +97,7 @@ fn of_mixed(c_lm: f64, denom: f64) -> Dihedral
 // ---- the first rule
 
 // The dihedral of three cofactors, by the rule that tests the product (lorentzian_regge.rs).
+#[tactic(auto, unfolding(crate::specs::Dihedral::compute_dihedral))]
 pub fn compute_dihedral(c_lm: f64, c_ll: f64, c_mm: f64) -> Dihedral
     ensures { result ≡ compute_dihedral c_lm c_ll c_mm }
 {
@@ -110,6 +114,7 @@ pub fn compute_dihedral(c_lm: f64, c_ll: f64, c_mm: f64) -> Dihedral
 // ---- the second rule
 
 // The dihedral of three cofactors, by the rule that tests the root (lorentzian.rs).
+#[tactic(auto, unfolding(crate::specs::Dihedral::dihedral_by_root))]
 pub fn dihedral_by_root(c_lm: f64, c_ll: f64, c_mm: f64) -> Dihedral
     ensures { result ≡ dihedral_by_root c_lm c_ll c_mm }
 {
@@ -188,18 +193,12 @@ pub fn lorentzian_dihedral(s: &[f64; 10], l: usize, m: usize) -> Result<Dihedral
 pub fn value_in(answer: &Result<Dihedral, Refusal>, other: f64) -> f64
     ensures { result ≡ value_or answer.now other }
 {
-    match answer {
-        Ok(dihedral) => dihedral.value(),
-        Err(_) => other,
-    }
+    answer.map_or(other, Dihedral::value)
 }
 
 // The number of the kind of an answer's dihedral, or `other` for a refusal.
 pub fn kind_in(answer: &Result<Dihedral, Refusal>, other: u8) -> u8
     ensures { result ≡ kind_or answer.now other }
 {
-    match answer {
-        Ok(dihedral) => dihedral.kind_number(),
-        Err(_) => other,
-    }
+    answer.map_or(other, Dihedral::kind_number)
 }
