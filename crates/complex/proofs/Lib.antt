@@ -1,4 +1,5 @@
 -- Laws on complexes, for proofs here and in the crates above.
+pub mod Fives
 pub mod Offences
 pub mod SortedPents
 pub mod Meetings

@@ -34,13 +34,11 @@ fn edges_of_triangles(pent_edges: &[u32], pent_tris: &[u32], tri_edges: &mut [u3
     requires { Consistent pent_edges.now pent_tris.now (length tri_edges.old) }
     ensures { EdgesOf pent_edges.now pent_tris.now tri_edges.new (length pent_tris.now) }
 {
-    let mut k = 0;
-    while k < pent_tris.len() {
-        let to = 3 * pent_tris[k] as usize;
+    for (k, tri) in pent_tris.iter().enumerate() {
+        let to = 3 * *tri as usize;
         tri_edges[to] = edge_at(pent_edges, k, 0);
         tri_edges[to + 1] = edge_at(pent_edges, k, 1);
         tri_edges[to + 2] = edge_at(pent_edges, k, 2);
-        k += 1;
     }
 }
 

@@ -1,8 +1,10 @@
 // The builder's refusals.
 ghost use Rattle.std.specs.Prelude.{◌≡◌, ◌+◌, ◌*◌, ◌/◌, ◌≤◌};
 ghost use Rattle.lists.specs.Lists.{among};
-ghost use Rattle.complex.specs.Builder.{too_large, repeats, offence, is_short, check_of, pentachorons};
+ghost use Rattle.complex.specs.Builder.{too_large, repeats, offence, is_short, check_of, pentachorons, rooms_of};
+ghost use Rattle.complex.specs.Lent.{lists_in};
 
+use crate::ListsMut;
 use refusals::Refusal;
 
 // The lengths of the lent lists.
@@ -20,46 +22,49 @@ pub struct Rooms {
     pub edge_to_pents_starts: usize,
 }
 
+impl ListsMut<'_> {
+    // The lengths of these lists.
+    #[tactic(auto, unfolding(crate::specs::Builder::rooms_of))]
+    pub fn rooms(&self) -> Rooms
+        ensures { result ≡ rooms_of (lists_in self.now) }
+    {
+        Rooms {
+            pents: self.pents.len(),
+            edges: self.edges.len(),
+            triangles: self.triangles.len(),
+            tets: self.tets.len(),
+            tri_to_pents_items: self.tri_to_pents.items.len(),
+            tri_to_pents_starts: self.tri_to_pents.starts.len(),
+            edge_to_tris_items: self.edge_to_tris.items.len(),
+            edge_to_tris_starts: self.edge_to_tris.starts.len(),
+            edge_to_pents_items: self.edge_to_pents.items.len(),
+            edge_to_pents_starts: self.edge_to_pents.starts.len(),
+        }
+    }
+}
+
 // Whether some number is not below n.
 pub fn too_large(n: usize, numbers: &[u32]) -> bool
     ensures { result ≡ too_large n numbers.now }
 {
-    let mut i = 0;
-    while i < numbers.len() {
-        if n <= numbers[i] as usize {
-            return true;
-        }
-        i += 1;
-    }
-    false
+    numbers.iter().any(|v| n <= *v as usize)
 }
 
 // Whether v is a vertex of `pent`.
 pub fn has(v: u32, pent: &[u32]) -> bool
     ensures { result ≡ among v pent.now }
 {
-    let mut i = 0;
-    while i < pent.len() {
-        if v == pent[i] {
-            return true;
-        }
-        i += 1;
-    }
-    false
+    pent.contains(&v)
 }
 
 // Whether some vertex of `pent` stands twice.
 fn repeats(pent: &[u32]) -> bool
     ensures { result ≡ repeats pent.now }
 {
-    let mut i = 0;
-    while i < pent.len() {
-        let v = pent[i];
-        let rest = i + 1;
-        if has(v, &pent[rest..]) {
+    for (i, v) in pent.iter().enumerate() {
+        if has(*v, &pent[i + 1..]) {
             return true;
         }
-        i = rest;
     }
     false
 }
@@ -68,55 +73,46 @@ fn repeats(pent: &[u32]) -> bool
 fn offence(n: usize, given: &[u32]) -> Result<(), Refusal>
     ensures { result ≡ offence n 0 (pentachorons given.now) }
 {
-    let count = given.len() / 5;
-    let mut k = 0;
-    while k < count {
-        let from = 5 * k;
-        let to = from + 5;
-        if too_large(n, &given[from..to]) {
+    for (k, pent) in given.chunks_exact(5).enumerate() {
+        if too_large(n, pent) {
             return Err(Refusal::VertexTooLarge(k));
         }
-        if repeats(&given[from..to]) {
+        if repeats(pent) {
             return Err(Refusal::RepeatedVertex(k));
         }
-        k += 1;
     }
     Ok(())
 }
 
 // Whether some lent list is shorter than its room for p pentachorons.
+#[tactic(auto, unfolding(crate::specs::Builder::is_short))]
 fn is_short(p: usize, rooms: Rooms) -> bool
     requires { p ≤ 8192 }
     ensures { result ≡ is_short p rooms }
 {
     let starts = 10 * p + 1;
-    (rooms.pents < 5 * p)
-        | (rooms.edges < 20 * p)
-        | (rooms.triangles < 30 * p)
-        | (rooms.tets < 20 * p)
-        | (rooms.tri_to_pents_items < 10 * p)
-        | (rooms.tri_to_pents_starts < starts)
-        | (rooms.edge_to_tris_items < 30 * p)
-        | (rooms.edge_to_tris_starts < starts)
-        | (rooms.edge_to_pents_items < 10 * p)
-        | (rooms.edge_to_pents_starts < starts)
+    rooms.pents < 5 * p
+        || rooms.edges < 20 * p
+        || rooms.triangles < 30 * p
+        || rooms.tets < 20 * p
+        || rooms.tri_to_pents_items < 10 * p
+        || rooms.tri_to_pents_starts < starts
+        || rooms.edge_to_tris_items < 30 * p
+        || rooms.edge_to_tris_starts < starts
+        || rooms.edge_to_pents_items < 10 * p
+        || rooms.edge_to_pents_starts < starts
 }
 
 // The builder's checks, in the table's order.
+#[tactic(auto, unfolding(crate::specs::Builder::check_of))]
 pub fn check(n_vertices: usize, given: &[u32], rooms: Rooms) -> Result<(), Refusal>
     ensures { result ≡ check_of n_vertices given.now rooms }
 {
     let len = given.len();
-    if n_vertices == 0 {
+    if n_vertices == 0 || 4096 < n_vertices {
         return Err(Refusal::VertexCount);
     }
-    if 4096 < n_vertices {
-        return Err(Refusal::VertexCount);
-    }
-    if len % 5 != 0 {
-        return Err(Refusal::ListLength);
-    }
-    if 40960 < len {
+    if len % 5 != 0 || 40960 < len {
         return Err(Refusal::ListLength);
     }
     if is_short(len / 5, rooms) {

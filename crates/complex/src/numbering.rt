@@ -7,17 +7,6 @@ ghost use Rattle.complex.specs.Parts.{Faces, Numbered, AllFaces, AllNumbered};
 
 use lists::meet_rows;
 
-// Two lists of numbers, one after the other.
-fn joined(x: [u32; 20], y: [u32; 10]) -> [u32; 30]
-    ensures { result ≡ map (λ i. get_or x i 0) (upto 20) ++ map (λ i. get_or y i 0) (upto 10) }
-{
-    [
-        x[0], x[1], x[2], x[3], x[4], x[5], x[6], x[7], x[8], x[9], x[10], x[11], x[12], x[13],
-        x[14], x[15], x[16], x[17], x[18], x[19], y[0], y[1], y[2], y[3], y[4], y[5], y[6], y[7],
-        y[8], y[9],
-    ]
-}
-
 // The kinds of faces that are numbered.
 #[derive(Clone, Copy)]
 pub enum Face {
@@ -50,23 +39,24 @@ impl Face {
     }
 
     // The faces of a pentachoron, in the order of the Rust's loops, and then zeros.
+    #[tactic(auto, unfolding(lists::specs::Rows::rows, lists::specs::Lists::combos))]
     fn rows(self, a: u32, b: u32, c: u32, d: u32, e: u32) -> [u32; 30]
         ensures faces { rows (width_of self) (count_of self) result ≡ faces_of self (a ∷ b ∷ c ∷ d ∷ e ∷ []) }
         ensures zeros_after { drop (width_of self * count_of self) result ≡ replicate (30 - width_of self * count_of self) 0 }
     {
         match self {
-            Face::Edge => joined(
-                [a, b, a, c, a, d, a, e, b, c, b, d, b, e, c, d, c, e, d, e],
-                [0; 10],
-            ),
-            Face::Triangle => joined(
-                [a, b, c, a, b, d, a, b, e, a, c, d, a, c, e, a, d, e, b, c],
-                [d, b, c, e, b, d, e, c, d, e],
-            ),
-            Face::Tet => joined(
-                [b, c, d, e, a, c, d, e, a, b, d, e, a, b, c, e, a, b, c, d],
-                [0; 10],
-            ),
+            Face::Edge => [
+                a, b, a, c, a, d, a, e, b, c, b, d, b, e, c, d, c, e, d, e, 0, 0, 0, 0, 0, 0, 0, 0,
+                0, 0,
+            ],
+            Face::Triangle => [
+                a, b, c, a, b, d, a, b, e, a, c, d, a, c, e, a, d, e, b, c, d, b, c, e, b, d, e, c,
+                d, e,
+            ],
+            Face::Tet => [
+                b, c, d, e, a, c, d, e, a, b, d, e, a, b, c, e, a, b, c, d, 0, 0, 0, 0, 0, 0, 0, 0,
+                0, 0,
+            ],
         }
     }
 
@@ -103,8 +93,7 @@ pub fn number_faces(
     let count = face.count();
     let mut head = [0u32; 32768];
     let mut n = 0;
-    let mut k = 0;
-    while k < pentachorons {
+    for k in 0..pentachorons {
         let given = face.rows_at(pents, 5 * k);
         n = meet_rows(
             list,
@@ -117,7 +106,6 @@ pub fn number_faces(
             numbers,
             count * k,
         );
-        k += 1;
     }
     n
 }

@@ -1,7 +1,6 @@
 -- `complex::adjacency_lists::adjacency` meets its contract. Assumes nothing.
-use native.Mathlib.Omega.{arith}
 use lib.ListN.{length}
-use Rattle.complex.proofs.TriangleEdges.{length-triangles, can-group-triangles}
+use Rattle.complex.proofs.TriangleEdges.{can-group-triangles}
 use Rattle.complex.proofs.adjacency_lists.adjacency.Goals as goal
 
 pub group-requires-2 : goal.group-requires-2

@@ -1,45 +1,36 @@
 -- `complex::checks::offence` meets its contract. Assumes nothing.
-use Prim.Native.Nat.{◌-◌, ◌/◌}
-use mathlib.Core.Path.{◌≡◌, refl, sym, ◌∙◌}
-use native.Mathlib.Nat.{sub-zero}
+use mathlib.Core.Path.{refl, sym, ap, ◌∙◌}
 use native.Mathlib.Omega.{arith}
-use lib.ListN.{length}
 use Rattle.complex.specs.Builder.{offence}
-use Rattle.lists.specs.Rows.{rows}
-use Rattle.complex.proofs.Offences.{offence-turn}
-use Rattle.lists.proofs.Rows.{part-row}
+use Rattle.complex.proofs.Fives.{fives_cons, fives_nil}
 use Rattle.complex.proofs.checks.offence.Goals as goal
 
-pub loop-k-init : goal.loop-k-init
-loop-k-init c = (omega arith, rw (sub-zero (length c.args.given.now / 5)) refl)
-
 pub returns-then-too_large : goal.returns-then-too_large
+unfolding offence
 returns-then-too_large c =
-    let a = c.args in
-    let l = c.loop-k in
-    let turn = offence-turn a.n l.k (length a.given.now / 5) a.given.now (omega arith) in
-    let part = part-row 5 l.k a.given.now in
-    sym (l.invariant.1 ∙ turn ∙ rw (← part, sym c.too_large.ensures ∙ c.if-too_large.true) refl)
+    let i = c.loop-k.invariant in
+    let s = c.in-Some.ensures.steps in
+    sym (i.left ∙ ap (offence c.args.n _) (fives_cons _ _ _ s.0.1.0 (s.0.1.1 ∙ i.fives)) ∙ rw (sym c.too_large.ensures ∙ c.if-too_large.true, s.1) refl)
 
 pub returns-then-repeats : goal.returns-then-repeats
+unfolding offence
 returns-then-repeats c =
-    let a = c.args in
-    let l = c.loop-k in
-    let turn = offence-turn a.n l.k (length a.given.now / 5) a.given.now (omega arith) in
-    let part = part-row 5 l.k a.given.now in
-    sym (l.invariant.1 ∙ turn ∙ rw (← part, sym c.too_large.ensures ∙ c.if-too_large.false, sym c.repeats.ensures ∙ c.if-repeats.true) refl)
+    let i = c.loop-k.invariant in
+    let s = c.in-Some.ensures.steps in
+    sym (i.left ∙ ap (offence c.args.n _) (fives_cons _ _ _ s.0.1.0 (s.0.1.1 ∙ i.fives)) ∙ rw (sym c.too_large.ensures ∙ c.if-too_large.false, sym c.repeats.ensures ∙ c.if-repeats.true, s.1) refl)
 
 pub loop-k-preserved : goal.loop-k-preserved
+unfolding offence
 loop-k-preserved c =
-    let a = c.args in
-    let l = c.loop-k in
-    let turn = offence-turn a.n l.k (length a.given.now / 5) a.given.now (omega arith) in
-    let part = part-row 5 l.k a.given.now in
-    (omega arith, l.invariant.1 ∙ turn ∙ rw (← part, sym c.too_large.ensures ∙ c.if-too_large.false, sym c.repeats.ensures ∙ c.if-repeats.false) refl)
+    let i = c.loop-k.invariant in
+    let s = c.in-Some.ensures.steps in record {
+      fives = s.0.0 ∙ i.fives;
+      left = i.left ∙ ap (offence c.args.n _) (fives_cons _ _ _ s.0.1.0 (s.0.1.1 ∙ i.fives)) ∙ rw (sym c.too_large.ensures ∙ c.if-too_large.false, sym c.repeats.ensures ∙ c.if-repeats.false, s.2) refl;
+    }
 
 pub returns : goal.returns
-unfolding offence rows
+unfolding offence
 returns c =
-    let l = c.loop-k in
-    let e : length c.args.given.now / 5 - l.k ≡ 0 = omega arith in
-    sym (l.invariant.1 ∙ rw e refl)
+    let i = c.loop-k.invariant in
+    let s = c.in-None.ensures.steps in
+    sym (i.left ∙ ap (offence c.args.n _) (fives_nil _ (omega (arith, s.0.1.0, i.fives))))

@@ -1,13 +1,12 @@
--- `complex::checks::offence` meets its contract. Assumes nothing.
-use Prim.Native.Nat.{◌*◌, ◌-◌, ◌/◌, ◌≤◌}
+-- `complex::checks::offence` meets its contract. The loop's invariant: no pentachoron before the k-th offends. Assumes nothing.
 use mathlib.Core.Path.{◌≡◌}
-use lib.ListN.{length, drop}
+use Rattle.std.specs.Slice.Iter.{chunks_exact_rest, chunks_exact_size}
+use Rattle.std.specs.Iterator.Adapters.{enumerate_source, enumerate_count}
 use Rattle.complex.specs.Builder.{offence, pentachorons}
-use Rattle.lists.specs.Rows.{rows}
 use Rattle.complex.proofs.checks.offence.Given as goal
 
 abbrev pub invariant-loop-k : goal.invariant-loop-k
-invariant-loop-k l = (l.k ≤ length l.given / 5) × (offence l.n 0 (pentachorons l.given) ≡ offence l.n l.k (rows 5 (length l.given / 5 - l.k) (drop (5 * l.k) l.given)))
-
-abbrev pub decreases-loop-k : goal.decreases-loop-k
-decreases-loop-k l = length l.given / 5 - l.k
+invariant-loop-k l = record {
+  fives : chunks_exact_size (enumerate_source l.k-iterator) ≡ 5;
+  left : offence l.n 0 (pentachorons l.given) ≡ offence l.n (enumerate_count l.k-iterator) (pentachorons (chunks_exact_rest (enumerate_source l.k-iterator)));
+}

