@@ -27,5 +27,5 @@ pub returns : goal.returns
 returns c =
     let a = c.args in
     let f = c.mark_touched in
-    let m = marks-touched a.complex.now.counts a.complex.now.pents.now a.complex.now.edges.now a.complex.now.triangles.now a.edge.0 81920 c.requires.4 f.new.marks f.ensures in
+    let m = marks-touched a.complex.now a.edge.0 81920 c.requires.4 f.new.marks f.ensures in
     (c.count_marked.ensures ∙ ap length m, c.list_marked.ensures ∙ ap (λ xs. over xs a.tris.now) m)
