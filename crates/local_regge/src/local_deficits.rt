@@ -50,7 +50,7 @@ pub fn local_deficit_angles_built(
     let counts = built.complex.counts;
     check_lengths(counts, sq_lengths.len())?;
     check_free(counts, free_edges)?;
-    let mut marks = [0u8; 81920];
+    let mut marks = [false; 81920];
     mark_tris(&built.complex, free_edges, &mut marks);
     let count = count_marked(counts.triangles, &marks);
     check_room(tris.len() < count || deficits.len() < count || kinds.len() < count)?;
