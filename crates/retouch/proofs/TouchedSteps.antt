@@ -30,10 +30,9 @@ use Rattle.comparison.proofs.BuiltComplex.{built-says, built-edge-to-pents}
 use Rattle.marks.specs.Marks.{listed, marked, marked_below}
 use Rattle.marks.proofs.Marking.{marked-listed, marked-most}
 use Rattle.hinges.specs.Hinges.{FaceLists, faces_of}
-use Rattle.hinges.specs.Parts.{Found, IsMeasured}
+use Rattle.hinges.specs.Parts.{Found, Measured}
 use Rattle.hinges.proofs.PentachoronSteps.{numbers-below}
-use Rattle.calls.specs.declared.built.BuiltComplex.{BuiltComplex}
-use Rattle.calls.specs.Calls.{lengths_check_of, room_check_of, short_table}
+use Rattle.calls.specs.Calls.{BuiltWith, lengths_check_of, room_check_of, short_table}
 use Rattle.calls.proofs.BuiltCalls.{built-measured, lengths-passed, lengths-decided, room-passed, done-not-refused}
 use Rattle.retouch.specs.Retouch.{around, touched, edge_check_of, Retouched}
 
@@ -131,22 +130,24 @@ module _ (c : Counts) (n e : ℕ) (others : Outcome) (lengths : lengths_check_of
   others-third edge = lengths-decided c n (edge_check_of c e others) lengths ∙ edge-decided c e others edge
 
 -- what a retouch of a built complex with n lengths has where the checks of lengths and edge let it pass
-pub record Passed (b : BuiltComplex) (n e : ℕ) : Type 0 where
-  pub measured : (m : ℕ) → m ≡ n → IsMeasured b.complex b.incidence m
-  pub on_pents : IsHolding (pents_of b.complex) (edges_of b.complex) b.complex.edge_to_pents
-  pub counted : n ≡ b.complex.counts.edges
-  pub inside : e < b.complex.counts.edges
+pub record Passed (x : Complex) (pe pt : List ℕ) (n e : ℕ) : Type 0 where
+  pub measured : (m : ℕ) → m ≡ n → Measured x.counts x.pents.now x.edges.now x.triangles.now x.tri_to_pents.items.now x.tri_to_pents.starts.now pe pt m
+  pub on_pents : IsHolding (pents_of x) (edges_of x) x.edge_to_pents
+  pub counted : n ≡ x.counts.edges
+  pub inside : e < x.counts.edges
+  pub few : x.counts.triangles ≤ 81920
 
 -- it has them
-pub retouch-passed : (b : BuiltComplex) (n e : ℕ) → lengths_check_of b.complex.counts n Done ≡ Done → edge_check_of b.complex.counts e Done ≡ Done → Passed b n e
-retouch-passed b n e lengths edge =
-    let x = b.complex in
+pub retouch-passed : (x : Complex) {pe pt : List ℕ} (n e : ℕ) → BuiltWith x.counts (lists_of x) pe pt → lengths_check_of x.counts n Done ≡ Done → edge_check_of x.counts e Done ≡ Done → Passed x pe pt n e
+retouch-passed x {pe} {pt} n e w lengths edge =
     let counted = (lengths-passed x.counts n Done lengths).0 in
+    let measured = λ m k. built-measured x.counts (lists_of x) pe pt m w (k ∙ counted) in
     record {
-      measured = λ m k. built-measured x.counts (lists_of x) b.incidence.pent_edges.now b.incidence.pent_tris.now m b.built_with (k ∙ counted);
-      on_pents = built-edge-to-pents x.counts (lists_of x) (said (built-says x.counts (lists_of x)) b.built_with.built);
+      measured = measured;
+      on_pents = built-edge-to-pents x.counts (lists_of x) (said (built-says x.counts (lists_of x)) w.built);
       counted = counted;
       inside = (edge-passed x.counts e Done edge).0;
+      few = (measured n refl).few;
     }
 
 -- ---- the lists that are lent

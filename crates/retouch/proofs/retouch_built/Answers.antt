@@ -1,6 +1,6 @@
 -- `retouch::retouch_built` meets its contract. Assumes nothing.
 use Rattle.std.specs.Prelude.{Err}
-use Prim.Native.Nat.{ℕ, ◌≤◌}
+use Prim.Native.Nat.{ℕ}
 use mathlib.Core.Path.{◌≡◌, refl, sym, ap, ◌∙◌}
 use native.Mathlib.Omega.{arith}
 use lib.ListN.{length, take, length-set}
@@ -19,12 +19,8 @@ use Rattle.retouch.proofs.retouch_built.Goals as goal
 use Rattle.retouch.proofs.retouch_built.Goals.{In_ok-check_edge, After-check_room, then-deficits-counts, else-deficits-counts}
 
 -- what the complex has where the checks of lengths and edge let the call pass
-passed : (c : In_ok-check_edge) → Passed c.args.built.now (length c.args.sq_lengths.now) c.args.edge.0
-passed c = retouch-passed c.args.built.now (length c.args.sq_lengths.now) c.args.edge.0 (sym c.check_lengths.ensures ∙ c.in_ok-check_lengths.was) (sym c.check_edge.ensures ∙ c.in_ok-check_edge.was)
-
--- its scratch of 81,920 numbers has a place for each triangle
-room : (c : In_ok-check_edge) → c.args.built.now.complex.counts.triangles ≤ 81920
-room c = ((passed c).measured (length c.args.sq_lengths.now) refl).few
+passed : (c : In_ok-check_edge) → let b = c.args.built.now in Passed b.complex b.incidence.pent_edges.now b.incidence.pent_tris.now (length c.args.sq_lengths.now) c.args.edge.0
+passed c = let b = c.args.built.now in retouch-passed b.complex (length c.args.sq_lengths.now) c.args.edge.0 b.built_with (sym c.check_lengths.ensures ∙ c.in_ok-check_lengths.was) (sym c.check_edge.ensures ∙ c.in_ok-check_edge.was)
 
 -- what the check of room says of the table
 room-says : (c : After-check_room) → c.check_room.result ≡ room_check_of (short_table c.args.built.now.complex.counts (length c.args.deficits.now) (length c.args.kinds.now))
@@ -59,7 +55,7 @@ pub list_touched-count-requires : goal.list_touched-count-requires
 list_touched-count-requires c =
     let p = passed (goal.at.list_touched-count-requires c).In_ok-check_edge in
     let m = p.measured (length c.args.sq_lengths.now) refl in
-    (p.on_pents, m.passable.tri_numbers, m.passable.triangles_found, p.inside, m.few, scratch-room {A = ℕ} 81920 refl 0 _ refl c.args.built.now.complex.counts.triangles m.few)
+    (p.on_pents, m.passable.tri_numbers, m.passable.triangles_found, p.inside, p.few, scratch-room {A = ℕ} 81920 refl 0 _ refl c.args.built.now.complex.counts.triangles p.few)
 
 pub bounds-sq_lengths-edge : goal.bounds-sq_lengths-edge
 bounds-sq_lengths-edge c = let p = passed (goal.at.bounds-sq_lengths-edge c).In_ok-check_edge in omega (arith, p.counted, p.inside)
@@ -68,14 +64,14 @@ pub slice_bounds-tris-end : goal.slice_bounds-tris-end
 slice_bounds-tris-end c =
     let f = c.list_touched-count in
     touched-room c.args.built.now.complex c.args.edge.0 f.result f.new.tris f.ensures.0
-    (omega (arith, f.auto.tris, scratch-room {A = ℕ} 81920 refl 0 _ refl c.args.built.now.complex.counts.triangles (room (goal.at.slice_bounds-tris-end c).In_ok-check_edge)))
+    (omega (arith, f.auto.tris, scratch-room {A = ℕ} 81920 refl 0 _ refl c.args.built.now.complex.counts.triangles (passed (goal.at.slice_bounds-tris-end c).In_ok-check_edge).few))
 
 pub slice_bounds-write_records-end : goal.slice_bounds-write_records-end
 slice_bounds-write_records-end c =
     let f = c.list_touched-count in
     sym (length-take-le f.result f.new.tris
     (touched-room c.args.built.now.complex c.args.edge.0 f.result f.new.tris f.ensures.0
-    (omega (arith, f.auto.tris, scratch-room {A = ℕ} 81920 refl 0 _ refl c.args.built.now.complex.counts.triangles (room (goal.at.slice_bounds-write_records-end c).In_ok-check_edge)))))
+    (omega (arith, f.auto.tris, scratch-room {A = ℕ} 81920 refl 0 _ refl c.args.built.now.complex.counts.triangles (passed (goal.at.slice_bounds-write_records-end c).In_ok-check_edge).few))))
 
 pub write_records-requires : goal.write_records-requires
 write_records-requires c =
