@@ -1,6 +1,6 @@
 -- Determinants and cofactors of a matrix, a list of rows, over any algebra: Laplace's expansion along the first row, in the Rust's order of operations. Definitions only.
-use Rattle.std.specs.Prelude.{ℕ, zero, suc, ◌+◌, ◌%◌, cond, List, [], ◌∷◌, ltb, eqb, get_or}
-use Rattle.floats.specs.Algebra.{Algebra}
+use Rattle.std.specs.Prelude.{ℕ, zero, suc, ◌≡◌, ◌+◌, ◌%◌, cond, List, [], ◌∷◌, ltb, eqb, get_or, ◌<◌, Float}
+use Rattle.floats.specs.Algebra.{Algebra, doubles}
 
 -- f 0, f 1, .. f (n - 1)
 unfoldable pub table : {A : Type 0} → ℕ → (ℕ → A) → List A
@@ -37,6 +37,10 @@ det3 o m =
 unfoldable pub expand : {A : Type 0} → Algebra A → (List (List A) → A) → ℕ → List (List A) → ℕ → A
 expand o det n m zero = o.zero
 expand o det n m (suc k) = o.add (expand o det n m k) (o.mul (o.mul (sign o k) (at o m 0 k)) (det (minor o n m 0 k)))
+
+-- what answers by `post` gives what f gives for the minors of the columns before k
+abbrev pub GivesMinors : (ℕ → Float → Type 0) → (List (List Float) → Float) → ℕ → List (List Float) → ℕ → Type 0
+GivesMinors post f n m k = (col : ℕ) (y : Float) → col < k → post col y → y ≡ f (minor doubles n m 0 col)
 
 -- the determinant of a 4 × 4 matrix
 unfoldable pub det4 : {A : Type 0} → Algebra A → List (List A) → A

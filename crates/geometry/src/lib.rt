@@ -2,12 +2,12 @@
 // lengths, in the Rust's order of operations. A matrix is an array of rows.
 #![tactic(auto)]
 
-ghost use Rattle.std.specs.Prelude.{◌≡◌, ◌+◌, ◌<◌, ◌≤◌, get_or};
+ghost use Rattle.std.specs.Prelude.{◌≡◌, ◌+◌, ◌<◌, ◌≤◌, ℕ, List, [], get_or, Float};
 ghost use Rattle.std.specs.Float.{nan};
 ghost use Rattle.floats.specs.Algebra.{doubles};
-ghost use Rattle.geometry.specs.Determinant.{table, skip, minor, sign, det3, det4, det5, cofactor};
+ghost use Rattle.geometry.specs.Determinant.{table, at, skip, minor, sign, det3, GivesMinors, expand, det4, det5, cofactor};
 ghost use Rattle.geometry.specs.CayleyMenger.{cm, cofactors};
-ghost use Rattle.geometry.specs.Answer.{cofactor_answer, refusal_of, value_or};
+ghost use Rattle.geometry.specs.Answer.{cofactor_answer};
 
 use refusals::Refusal;
 
@@ -21,132 +21,37 @@ fn skip_one(r: usize, i: usize) -> usize
     if i < r { i } else { i + 1 }
 }
 
-// A row of a 4 × 4 matrix without its entry j.
-fn row_4(x: [f64; 4], j: usize) -> [f64; 3]
-    ensures { result ≡ table 3 (λ i. get_or x (skip j i) nan) }
+// A row without its entry j; a number above M leaves out the last.
+fn row_without<const N: usize, const M: usize>(x: &[f64; N], j: usize) -> [f64; M]
+    requires { (N ≡ M + 1) × (M < 6) }
+    ensures { result ≡ table M (λ i. get_or x.now (skip j i) nan) }
 {
-    [x[skip_one(j, 0)], x[skip_one(j, 1)], x[skip_one(j, 2)]]
+    std::array::from_fn(
+        |i|
+            requires { (i + 1 < N) × (i < 5) }
+            ensures { result ≡ get_or x.entry.now (skip j i) nan }
+        { x[skip_one(j, i)] },
+    )
 }
 
-// A row of a 5 × 5 matrix without its entry j.
-fn row_5(x: [f64; 5], j: usize) -> [f64; 4]
-    ensures { result ≡ table 4 (λ i. get_or x (skip j i) nan) }
+// A matrix without a row and a column; a number above M leaves out the last.
+fn minor_of<const N: usize, const M: usize>(
+    m: &[[f64; N]; N],
+    row: usize,
+    col: usize,
+) -> [[f64; M]; M]
+    requires { (N ≡ M + 1) × (M < 6) }
+    ensures { result ≡ minor doubles M m.now row col }
 {
-    [
-        x[skip_one(j, 0)],
-        x[skip_one(j, 1)],
-        x[skip_one(j, 2)],
-        x[skip_one(j, 3)],
-    ]
-}
-
-// A row of a 6 × 6 matrix without its entry j.
-fn row_6(x: [f64; 6], j: usize) -> [f64; 5]
-    ensures { result ≡ table 5 (λ i. get_or x (skip j i) nan) }
-{
-    [
-        x[skip_one(j, 0)],
-        x[skip_one(j, 1)],
-        x[skip_one(j, 2)],
-        x[skip_one(j, 3)],
-        x[skip_one(j, 4)],
-    ]
-}
-
-// A 4 × 4 matrix without its first row and the column j.
-fn minor_4x4(m: [[f64; 4]; 4], j: usize) -> [[f64; 3]; 3]
-    ensures { result ≡ minor doubles 3 m 0 j }
-{
-    [row_4(m[1], j), row_4(m[2], j), row_4(m[3], j)]
-}
-
-// A 5 × 5 matrix without its first row and the column j.
-fn minor_5x5(m: [[f64; 5]; 5], j: usize) -> [[f64; 4]; 4]
-    ensures { result ≡ minor doubles 4 m 0 j }
-{
-    [
-        row_5(m[1], j),
-        row_5(m[2], j),
-        row_5(m[3], j),
-        row_5(m[4], j),
-    ]
-}
-
-// A 6 × 6 matrix without a row and a column; a number above 5 leaves out the last.
-fn minor_6x6(m: [[f64; 6]; 6], row: usize, col: usize) -> [[f64; 5]; 5]
-    ensures { result ≡ minor doubles 5 m row col }
-{
-    [
-        row_6(m[skip_one(row, 0)], col),
-        row_6(m[skip_one(row, 1)], col),
-        row_6(m[skip_one(row, 2)], col),
-        row_6(m[skip_one(row, 3)], col),
-        row_6(m[skip_one(row, 4)], col),
-    ]
+    std::array::from_fn(
+        |i|
+            requires { (i < M) × (N ≡ M + 1) × (M < 6) }
+            ensures { result ≡ table M (λ j. at doubles m.entry.now (skip row i) (skip col j)) }
+        { row_without(&m[skip_one(row, i)], col) },
+    )
 }
 
 // ---- determinants
-
-// Determinant of a 3 × 3 matrix.
-fn det_3x3(m: [[f64; 3]; 3]) -> f64
-    ensures { result ≡ det3 doubles m }
-{
-    m[0][0] * (m[1][1] * m[2][2] - m[1][2] * m[2][1])
-        - m[0][1] * (m[1][0] * m[2][2] - m[1][2] * m[2][0])
-        + m[0][2] * (m[1][0] * m[2][1] - m[1][1] * m[2][0])
-}
-
-// Determinant of a 4 × 4 matrix.
-fn det_4x4(m: [[f64; 4]; 4]) -> f64
-    ensures { result ≡ det4 doubles m }
-{
-    let d0 = 0.0 + 1.0 * m[0][0] * det_3x3(minor_4x4(m, 0));
-    let d1 = d0 + -1.0 * m[0][1] * det_3x3(minor_4x4(m, 1));
-    let d2 = d1 + 1.0 * m[0][2] * det_3x3(minor_4x4(m, 2));
-    d2 + -1.0 * m[0][3] * det_3x3(minor_4x4(m, 3))
-}
-
-// Determinant of a 5 × 5 matrix.
-fn det_5x5(m: [[f64; 5]; 5]) -> f64
-    ensures { result ≡ det5 doubles m }
-{
-    let d0 = 0.0 + 1.0 * m[0][0] * det_4x4(minor_5x5(m, 0));
-    let d1 = d0 + -1.0 * m[0][1] * det_4x4(minor_5x5(m, 1));
-    let d2 = d1 + 1.0 * m[0][2] * det_4x4(minor_5x5(m, 2));
-    let d3 = d2 + -1.0 * m[0][3] * det_4x4(minor_5x5(m, 3));
-    d3 + 1.0 * m[0][4] * det_4x4(minor_5x5(m, 4))
-}
-
-// ---- cofactors
-
-// A cofactor, or why there is none.
-#[derive(Clone, Copy)]
-pub enum Cofactor {
-    Done(f64),
-    Refused(Refusal),
-}
-
-impl Cofactor {
-    // The refusal's number, 0 for an answer.
-    pub fn number(self) -> u32
-        ensures { result ≡ refusal_of self }
-    {
-        match self {
-            Cofactor::Done(_) => 0,
-            Cofactor::Refused(refusal) => refusal.number(),
-        }
-    }
-
-    // The cofactor, or `other` for a refusal.
-    pub fn value_or(self, other: f64) -> f64
-        ensures { result ≡ value_or self other }
-    {
-        match self {
-            Cofactor::Done(value) => value,
-            Cofactor::Refused(_) => other,
-        }
-    }
-}
 
 // 1 where row + col is even, else -1.
 fn sign_of(row: usize, col: usize) -> f64
@@ -156,23 +61,60 @@ fn sign_of(row: usize, col: usize) -> f64
     if (row + col) % 2 == 0 { 1.0 } else { -1.0 }
 }
 
-// The cofactor of a row and a column that the matrix has.
-fn cofactor_at(m: [[f64; 6]; 6], row: usize, col: usize) -> f64
-    requires { (row < 6) × (col < 6) }
-    ensures { result ≡ cofactor doubles m row col }
+// The expansion along a row, where `minor` gives the determinant of the minor of each column.
+fn expand<const N: usize, D: Fn(usize) -> f64>(row: &[f64; N], minor: D) -> f64
+    requires small { N < 7 }
+    requires callable { (col : ℕ) → col < N → D.pre minor col }
+    ensures { (m : List (List Float)) (f : List (List Float) → Float) (n : ℕ) → get_or m 0 [] ≡ row.now → GivesMinors (D.post minor) f n m N → result ≡ expand doubles f n m N }
 {
-    sign_of(row, col) * det_5x5(minor_6x6(m, row, col))
+    let mut sum = 0.0;
+    for col in 0..N {
+        sum += sign_of(0, col) * row[col] * minor(col);
+    }
+    sum
+}
+
+// Determinant of a 3 × 3 matrix.
+fn det_3x3(m: &[[f64; 3]; 3]) -> f64
+    ensures { result ≡ det3 doubles m.now }
+{
+    m[0][0] * (m[1][1] * m[2][2] - m[1][2] * m[2][1])
+        - m[0][1] * (m[1][0] * m[2][2] - m[1][2] * m[2][0])
+        + m[0][2] * (m[1][0] * m[2][1] - m[1][1] * m[2][0])
+}
+
+// Determinant of a 4 × 4 matrix.
+fn det_4x4(m: &[[f64; 4]; 4]) -> f64
+    ensures { result ≡ det4 doubles m.now }
+{
+    expand(&m[0], |col| det_3x3(&minor_of(m, 0, col)))
+}
+
+// Determinant of a 5 × 5 matrix.
+fn det_5x5(m: &[[f64; 5]; 5]) -> f64
+    ensures { result ≡ det5 doubles m.now }
+{
+    expand(&m[0], |col| det_4x4(&minor_of(m, 0, col)))
+}
+
+// ---- cofactors
+
+// The cofactor of a row and a column that the matrix has.
+pub fn cofactor_at(m: &[[f64; 6]; 6], row: usize, col: usize) -> f64
+    requires { (row < 6) × (col < 6) }
+    ensures { result ≡ cofactor doubles m.now row col }
+{
+    sign_of(row, col) * det_5x5(&minor_of(m, row, col))
 }
 
 // The (row, col) cofactor of a 6 × 6 matrix. Refused with 11 where either is above 5.
-pub fn cofactor_6x6(m: &[[f64; 6]; 6], row: usize, col: usize) -> Cofactor
+pub fn cofactor_6x6(m: &[[f64; 6]; 6], row: usize, col: usize) -> Result<f64, Refusal>
     ensures { result ≡ cofactor_answer m.now row col }
 {
     if 5 < row || 5 < col {
-        return Cofactor::Refused(Refusal::BadIndex);
+        return Err(Refusal::BadIndex);
     }
-    let rows = *m;
-    Cofactor::Done(cofactor_at(rows, row, col))
+    Ok(cofactor_at(m, row, col))
 }
 
 // ---- the Cayley-Menger matrix
@@ -197,20 +139,20 @@ pub fn cm_cofactors(s: &[f64; 10]) -> [f64; 15]
 {
     let m = cm_matrix_signed(s);
     [
-        cofactor_at(m, 1, 1),
-        cofactor_at(m, 1, 2),
-        cofactor_at(m, 1, 3),
-        cofactor_at(m, 1, 4),
-        cofactor_at(m, 1, 5),
-        cofactor_at(m, 2, 2),
-        cofactor_at(m, 2, 3),
-        cofactor_at(m, 2, 4),
-        cofactor_at(m, 2, 5),
-        cofactor_at(m, 3, 3),
-        cofactor_at(m, 3, 4),
-        cofactor_at(m, 3, 5),
-        cofactor_at(m, 4, 4),
-        cofactor_at(m, 4, 5),
-        cofactor_at(m, 5, 5),
+        cofactor_at(&m, 1, 1),
+        cofactor_at(&m, 1, 2),
+        cofactor_at(&m, 1, 3),
+        cofactor_at(&m, 1, 4),
+        cofactor_at(&m, 1, 5),
+        cofactor_at(&m, 2, 2),
+        cofactor_at(&m, 2, 3),
+        cofactor_at(&m, 2, 4),
+        cofactor_at(&m, 2, 5),
+        cofactor_at(&m, 3, 3),
+        cofactor_at(&m, 3, 4),
+        cofactor_at(&m, 3, 5),
+        cofactor_at(&m, 4, 4),
+        cofactor_at(&m, 4, 5),
+        cofactor_at(&m, 5, 5),
     ]
 }

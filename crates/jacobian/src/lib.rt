@@ -10,6 +10,7 @@ ghost use Rattle.jacobian.specs.Jacobian.{values, column, entry_of, jacobian};
 pub use dihedrals::{all_lorentzian_dihedrals, dihedral_kinds, dihedral_values};
 
 // The numbers of the ten dihedrals with the e-th length set.
+#[tactic(auto, unfolding(crate::specs::Jacobian::values))]
 fn values_with(s: [f64; 10], e: usize, x: f64) -> [f64; 10]
     requires { e < 10 }
     ensures { result ≡ values (set s e x) }
@@ -20,54 +21,32 @@ fn values_with(s: [f64; 10], e: usize, x: f64) -> [f64; 10]
 }
 
 // The derivatives by the e-th length.
-fn jacobian_column(s: [f64; 10], eps: f64, e: usize) -> [f64; 10]
+fn jacobian_column(s: &[f64; 10], eps: f64, e: usize) -> [f64; 10]
     requires { e < 10 }
-    ensures { result ≡ column s eps e }
+    ensures { result ≡ column s.now eps e }
 {
     let old = s[e];
-    let plus = values_with(s, e, old + eps);
-    let minus = values_with(s, e, old - eps);
+    let plus = values_with(*s, e, old + eps);
+    let minus = values_with(*s, e, old - eps);
     let step = 2.0 * eps;
-    [
-        (plus[0] - minus[0]) / step,
-        (plus[1] - minus[1]) / step,
-        (plus[2] - minus[2]) / step,
-        (plus[3] - minus[3]) / step,
-        (plus[4] - minus[4]) / step,
-        (plus[5] - minus[5]) / step,
-        (plus[6] - minus[6]) / step,
-        (plus[7] - minus[7]) / step,
-        (plus[8] - minus[8]) / step,
-        (plus[9] - minus[9]) / step,
-    ]
+    std::array::from_fn(|k| (plus[k] - minus[k]) / step)
 }
 
 // Ten columns as one list, row after row.
-fn by_rows(columns: [[f64; 10]; 10]) -> [f64; 100]
-    ensures { result ≡ table 100 (entry_of columns) }
+fn by_rows(columns: &[[f64; 10]; 10]) -> [f64; 100]
+    ensures { result ≡ table 100 (entry_of columns.now) }
 {
-    let mut rows = [0.0; 100];
-    for i in 0..100 {
-        rows[i] = columns[i % 10][i / 10];
-    }
-    rows
+    std::array::from_fn(|i| columns[i % 10][i / 10])
 }
 
 // The derivative of the k-th dihedral by the e-th length at 10 k + e, by central differences with any eps.
 pub fn all_lorentzian_dihedrals_jacobian(s: &[f64; 10], eps: f64) -> [f64; 100]
     ensures { result ≡ jacobian s.now eps }
 {
-    let lengths = *s;
-    by_rows([
-        jacobian_column(lengths, eps, 0),
-        jacobian_column(lengths, eps, 1),
-        jacobian_column(lengths, eps, 2),
-        jacobian_column(lengths, eps, 3),
-        jacobian_column(lengths, eps, 4),
-        jacobian_column(lengths, eps, 5),
-        jacobian_column(lengths, eps, 6),
-        jacobian_column(lengths, eps, 7),
-        jacobian_column(lengths, eps, 8),
-        jacobian_column(lengths, eps, 9),
-    ])
+    by_rows(&std::array::from_fn(
+        |e|
+            requires { e < 10 }
+            ensures { result ≡ column s.entry.now eps e }
+        { jacobian_column(s, eps, e) },
+    ))
 }

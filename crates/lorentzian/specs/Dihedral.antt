@@ -1,7 +1,7 @@
 -- Dihedrals by both rules. In either a dihedral is an angle or a boost and carries its one number. Definitions only.
-use Rattle.std.specs.Prelude.{ℕ, ◌+◌, cond, ◌||◌, List, [], ◌∷◌, ltb, eqb, Float}
+use Rattle.std.specs.Prelude.{ℕ, ◌+◌, ◌≡◌, cond, ◌||◌, List, [], ◌∷◌, ltb, eqb, Float, Result, Ok, Err}
 use Rattle.std.specs.Float.Ieee.{neg, lt, le}
-use Rattle.refusals.specs.Refusals.{number_of}
+use Rattle.refusals.specs.declared.Refusal.{Refusal}
 use Rattle.refusals.specs.declared.Refusal.TheVariants.{BadIndex}
 use Rattle.floats.specs.Ops.{◌⊕◌, ◌⊗◌, ◌⊘◌, dbl, zero, one}
 use Rattle.floats.specs.Methods.{abs_of, signum_of, clamp_unit_of}
@@ -16,8 +16,6 @@ use Rattle.lorentzian.specs.declared.dihedral.HingeType.{HingeType}
 use Rattle.lorentzian.specs.declared.dihedral.HingeType.TheVariants.{Spacelike, Timelike}
 use Rattle.lorentzian.specs.declared.dihedral.Dihedral.{Dihedral}
 use Rattle.lorentzian.specs.declared.dihedral.Dihedral.TheVariants.{Angle, Boost}
-use Rattle.lorentzian.specs.declared.dihedral.DihedralAnswer.{DihedralAnswer}
-use Rattle.lorentzian.specs.declared.dihedral.DihedralAnswer.TheVariants.{Done, Refused}
 
 -- ---- the cases
 
@@ -90,30 +88,35 @@ dihedral_by_root clm cll cmm =
     (cond (lt (root_of product) root_limit) (Angle zero) (of_ratio (ratio_of clm cll (root_of product))))
     (cond (lt (root_of (abs_of product)) root_limit) (Boost zero) (of_mixed clm (root_of (abs_of product))))
 
--- the dihedral at the triangle opposite the edge of the vertices l and m; they are not put in order
-unfoldable pub lorentzian_dihedral : List Float → ℕ → ℕ → Dihedral
-lorentzian_dihedral s l m =
+-- ---- of a pentachoron
+
+-- the rule that answers by `post` answers what f gives
+abbrev pub Gives : (Float → Float → Float → Dihedral → Type 0) → (Float → Float → Float → Dihedral) → Type 0
+Gives post f = (x y z : Float) (d : Dihedral) → post x y z d → d ≡ f x y z
+
+-- the dihedral by the rule f at the triangle opposite the edge of the vertices l and m; they are not put in order
+unfoldable pub dihedral_by : (Float → Float → Float → Dihedral) → List Float → ℕ → ℕ → Dihedral
+dihedral_by f s l m =
     let C = cofactor doubles (cm doubles s) in
-    dihedral_by_root (C (l + 1) (m + 1)) (C (l + 1) (l + 1)) (C (m + 1) (m + 1))
+    f (C (l + 1) (m + 1)) (C (l + 1) (l + 1)) (C (m + 1) (m + 1))
+
+-- that by the second rule
+abbrev pub lorentzian_dihedral : List Float → ℕ → ℕ → Dihedral
+lorentzian_dihedral = dihedral_by dihedral_by_root
 
 -- refusal 11 where l or m is above 4, or they are the same
-abbrev pub dihedral_answer : List Float → ℕ → ℕ → DihedralAnswer
-dihedral_answer s l m = cond (ltb 4 l || (ltb 4 m || eqb l m)) (Refused BadIndex) (Done (lorentzian_dihedral s l m))
-
--- the refusal's number, 0 for an answer
-abbrev pub refusal_of : DihedralAnswer → ℕ
-refusal_of (Done d) = 0
-refusal_of (Refused r) = number_of r
+abbrev pub dihedral_answer : List Float → ℕ → ℕ → Result Dihedral Refusal
+dihedral_answer s l m = cond (ltb 4 l || (ltb 4 m || eqb l m)) (Err BadIndex) (Ok (lorentzian_dihedral s l m))
 
 -- the dihedral's number, or `other` for a refusal
-abbrev pub value_or : DihedralAnswer → Float → Float
-value_or (Done d) other = value_of d
-value_or (Refused r) other = other
+abbrev pub value_or : Result Dihedral Refusal → Float → Float
+value_or (Ok d) other = value_of d
+value_or (Err r) other = other
 
 -- the number of the dihedral's kind, or `other` for a refusal
-abbrev pub kind_or : DihedralAnswer → ℕ → ℕ
-kind_or (Done d) other = kind_number_of d
-kind_or (Refused r) other = other
+abbrev pub kind_or : Result Dihedral Refusal → ℕ → ℕ
+kind_or (Ok d) other = kind_number_of d
+kind_or (Err r) other = other
 
 -- what f gives for the pairs 01, 02, 03, 04, 12, 13, 14, 23, 24, 34
 abbrev pub pairs : {A : Type 0} → (ℕ → ℕ → A) → List A

@@ -1,9 +1,8 @@
 -- The squared area of a triangle of signed squared lengths, and its gradient, by its own lengths and by a pentachoron's. Definitions only.
-use Rattle.std.specs.Prelude.{ℕ, zero, suc, ◌+◌, ◌-◌, Bool, cond, ◌||◌, List, [], ◌∷◌, ltb, eqb, get_or, set, replicate, Float}
+use Rattle.std.specs.Prelude.{ℕ, zero, suc, ◌+◌, ◌-◌, Bool, cond, ◌||◌, List, [], ◌∷◌, ltb, eqb, get_or, set, replicate, Float, Err}
 use Rattle.std.specs.Float.{nan}
 use Rattle.refusals.specs.declared.Refusal.TheVariants.{BadIndex}
-use Rattle.refusals.specs.declared.Outcome.{Outcome}
-use Rattle.refusals.specs.declared.Outcome.TheVariants.{Done, Refused}
+use Rattle.refusals.specs.Refusals.{Outcome, Done}
 use Rattle.floats.specs.Ops as Ops
 use Rattle.floats.specs.Ops.{◌⊕◌, ◌⊖◌, ◌⊘◌, dbl, two}
 use Rattle.floats.specs.Algebra.{Algebra, doubles}
@@ -62,7 +61,7 @@ grad_in_pent s a b c =
 
 -- refusal 11 where the three of `tri` are no triangle
 abbrev pub grad_outcome : List ℕ → Outcome
-grad_outcome tri = cond (no_triangle (get_or tri 0 0) (get_or tri 1 0) (get_or tri 2 0)) (Refused BadIndex) Done
+grad_outcome tri = cond (no_triangle (get_or tri 0 0) (get_or tri 1 0) (get_or tri 2 0)) (Err BadIndex) Done
 
 -- what the lent buffer holds then: what it held, or the derivatives
 abbrev pub grad_after : List Float → List ℕ → List Float → List Float

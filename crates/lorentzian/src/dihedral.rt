@@ -1,17 +1,17 @@
 // Dihedrals by both rules: from three cofactors, and from two vertices of a pentachoron.
-ghost use Rattle.std.specs.Prelude.{◌≡◌, ◌<◌};
-ghost use Rattle.lorentzian.specs.Dihedral.{kind_number, kind_of, value_of, kind_number_of, ratio_of, of_ratio, of_mixed, compute_dihedral, dihedral_by_root, lorentzian_dihedral, dihedral_answer, refusal_of, value_or, kind_or};
+ghost use Rattle.std.specs.Prelude.{◌≡◌, ◌<◌, Float};
+ghost use Rattle.lorentzian.specs.Dihedral.{kind_number, kind_of, value_of, kind_number_of, ratio_of, of_ratio, of_mixed, compute_dihedral, dihedral_by_root, Gives, dihedral_by, pairs, dihedral_answer, value_or, kind_or};
 
 use fdlibm::{acos, acosh, asinh};
 use floats::{abs, clamp_unit, signum};
-use geometry::{cm_matrix_signed, cofactor_6x6};
+use geometry::{cm_cofactors, cm_matrix_signed, cofactor_at};
 use refusals::Refusal;
 use root::root;
 
 // ---- the cases
 
 // Kind of a hinge.
-#[derive(Clone, Copy)]
+#[derive(Clone, Copy, Debug, PartialEq, Eq)]
 pub enum HingeType {
     // Its deficit is 2π less the sum of its angles.
     Spacelike,
@@ -24,15 +24,12 @@ impl HingeType {
     pub fn number(self) -> u8
         ensures { result ≡ kind_number self }
     {
-        match self {
-            HingeType::Spacelike => 0,
-            HingeType::Timelike => 1,
-        }
+        self as u8
     }
 }
 
 // A dihedral with its one number. Only `kind` and `value` match on it.
-#[derive(Clone, Copy)]
+#[derive(Clone, Copy, Debug, PartialEq)]
 pub enum Dihedral {
     Angle(f64),
     Boost(f64),
@@ -70,6 +67,7 @@ impl Dihedral {
 // ---- what both rules share
 
 // Minus c_lm over the root of the product, its sign turned where c_ll is negative.
+#[tactic(auto, unfolding(crate::specs::Dihedral::ratio_of))]
 fn ratio_of(c_lm: f64, c_ll: f64, denom: f64) -> f64
     ensures { result ≡ ratio_of c_lm c_ll denom }
 {
@@ -78,6 +76,7 @@ fn ratio_of(c_lm: f64, c_ll: f64, denom: f64) -> f64
 }
 
 // The dihedral of a ratio, where both cofactors have the same sign.
+#[tactic(auto, unfolding(crate::specs::Dihedral::of_ratio))]
 fn of_ratio(ratio: f64) -> Dihedral
     ensures { result ≡ of_ratio ratio }
 {
@@ -88,6 +87,7 @@ fn of_ratio(ratio: f64) -> Dihedral
 }
 
 // The dihedral where the product is not positive.
+#[tactic(auto, unfolding(crate::specs::Dihedral::of_mixed))]
 fn of_mixed(c_lm: f64, denom: f64) -> Dihedral
     ensures { result ≡ of_mixed c_lm denom }
 {
@@ -97,6 +97,7 @@ fn of_mixed(c_lm: f64, denom: f64) -> Dihedral
 // ---- the first rule
 
 // The dihedral of three cofactors, by the rule that tests the product (lorentzian_regge.rs).
+#[tactic(auto, unfolding(crate::specs::Dihedral::compute_dihedral))]
 pub fn compute_dihedral(c_lm: f64, c_ll: f64, c_mm: f64) -> Dihedral
     ensures { result ≡ compute_dihedral c_lm c_ll c_mm }
 {
@@ -113,6 +114,7 @@ pub fn compute_dihedral(c_lm: f64, c_ll: f64, c_mm: f64) -> Dihedral
 // ---- the second rule
 
 // The dihedral of three cofactors, by the rule that tests the root (lorentzian.rs).
+#[tactic(auto, unfolding(crate::specs::Dihedral::dihedral_by_root))]
 pub fn dihedral_by_root(c_lm: f64, c_ll: f64, c_mm: f64) -> Dihedral
     ensures { result ≡ dihedral_by_root c_lm c_ll c_mm }
 {
@@ -131,64 +133,72 @@ pub fn dihedral_by_root(c_lm: f64, c_ll: f64, c_mm: f64) -> Dihedral
     of_mixed(c_lm, denom)
 }
 
-// A dihedral, or why there is none.
-#[derive(Clone, Copy)]
-pub enum DihedralAnswer {
-    Done(Dihedral),
-    Refused(Refusal),
-}
+// ---- of a pentachoron
 
-impl DihedralAnswer {
-    // The refusal's number, 0 for an answer.
-    pub fn number(self) -> u32
-        ensures { result ≡ refusal_of self }
-    {
-        match self {
-            DihedralAnswer::Done(_) => 0,
-            DihedralAnswer::Refused(refusal) => refusal.number(),
-        }
-    }
-
-    // The dihedral's number, or `other` for a refusal.
-    pub fn value_or(self, other: f64) -> f64
-        ensures { result ≡ value_or self other }
-    {
-        match self {
-            DihedralAnswer::Done(dihedral) => dihedral.value(),
-            DihedralAnswer::Refused(_) => other,
-        }
-    }
-
-    // The number of the dihedral's kind, or `other` for a refusal.
-    pub fn kind_or(self, other: u8) -> u8
-        ensures { result ≡ kind_or self other }
-    {
-        match self {
-            DihedralAnswer::Done(dihedral) => dihedral.kind_number(),
-            DihedralAnswer::Refused(_) => other,
-        }
-    }
-}
-
-// The dihedral of two of a pentachoron's vertices.
-fn dihedral_at(s: &[f64; 10], l: usize, m: usize) -> Dihedral
-    requires { (l < 5) × (m < 5) }
-    ensures { result ≡ lorentzian_dihedral s.now l m }
+// The dihedral of two of a pentachoron's vertices, by a rule.
+pub fn dihedral_at<R: Fn(f64, f64, f64) -> Dihedral>(
+    s: &[f64; 10],
+    l: usize,
+    m: usize,
+    rule: R,
+) -> Dihedral
+    requires in_range { (l < 5) × (m < 5) }
+    requires callable { R.IsAlwaysCallable rule }
+    ensures { (f : Float → Float → Float → Dihedral) → Gives (R.post rule) f → result ≡ dihedral_by f s.now l m }
 {
     let cm = cm_matrix_signed(s);
-    let c_lm = cofactor_6x6(&cm, l + 1, m + 1).value_or(0.0);
-    let c_ll = cofactor_6x6(&cm, l + 1, l + 1).value_or(0.0);
-    let c_mm = cofactor_6x6(&cm, m + 1, m + 1).value_or(0.0);
-    dihedral_by_root(c_lm, c_ll, c_mm)
+    let c_lm = cofactor_at(&cm, l + 1, m + 1);
+    let c_ll = cofactor_at(&cm, l + 1, l + 1);
+    let c_mm = cofactor_at(&cm, m + 1, m + 1);
+    rule(c_lm, c_ll, c_mm)
+}
+
+// The dihedrals of the pairs 01, 02, 03, 04, 12, 13, 14, 23, 24, 34, by a rule.
+pub fn ten_dihedrals<R: Fn(f64, f64, f64) -> Dihedral>(s: &[f64; 10], rule: R) -> [Dihedral; 10]
+    requires { R.IsAlwaysCallable rule }
+    ensures { (f : Float → Float → Float → Dihedral) → Gives (R.post rule) f → result ≡ pairs (dihedral_by f s.now) }
+{
+    let c = cm_cofactors(s);
+    let c00 = c[0];
+    let c11 = c[5];
+    let c22 = c[9];
+    let c33 = c[12];
+    let c44 = c[14];
+    [
+        rule(c[1], c00, c11),
+        rule(c[2], c00, c22),
+        rule(c[3], c00, c33),
+        rule(c[4], c00, c44),
+        rule(c[6], c11, c22),
+        rule(c[7], c11, c33),
+        rule(c[8], c11, c44),
+        rule(c[10], c22, c33),
+        rule(c[11], c22, c44),
+        rule(c[13], c33, c44),
+    ]
 }
 
 // The dihedral at the triangle opposite the edge of the vertices l and m, which are not put in order.
 // Refused with 11 where either is above 4 or they are the same.
-pub fn lorentzian_dihedral(s: &[f64; 10], l: usize, m: usize) -> DihedralAnswer
+pub fn lorentzian_dihedral(s: &[f64; 10], l: usize, m: usize) -> Result<Dihedral, Refusal>
     ensures { result ≡ dihedral_answer s.now l m }
 {
     if 4 < l || 4 < m || l == m {
-        return DihedralAnswer::Refused(Refusal::BadIndex);
+        return Err(Refusal::BadIndex);
     }
-    DihedralAnswer::Done(dihedral_at(s, l, m))
+    Ok(dihedral_at(s, l, m, dihedral_by_root))
+}
+
+// The number of an answer's dihedral, or `other` for a refusal.
+pub fn value_in(answer: &Result<Dihedral, Refusal>, other: f64) -> f64
+    ensures { result ≡ value_or answer.now other }
+{
+    answer.map_or(other, Dihedral::value)
+}
+
+// The number of the kind of an answer's dihedral, or `other` for a refusal.
+pub fn kind_in(answer: &Result<Dihedral, Refusal>, other: u8) -> u8
+    ensures { result ≡ kind_or answer.now other }
+{
+    answer.map_or(other, Dihedral::kind_number)
 }

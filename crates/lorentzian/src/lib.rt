@@ -7,6 +7,7 @@ mod dihedral;
 mod triangle;
 
 pub use dihedral::{
-    Dihedral, DihedralAnswer, HingeType, compute_dihedral, dihedral_by_root, lorentzian_dihedral,
+    Dihedral, HingeType, compute_dihedral, dihedral_at, dihedral_by_root, kind_in,
+    lorentzian_dihedral, ten_dihedrals, value_in,
 };
 pub use triangle::{tri_area_sq_grad_in_pent, triangle_area_sq_grad, triangle_area_sq_lorentzian};

@@ -2,9 +2,10 @@
 ghost use Rattle.std.specs.Prelude.{◌≡◌, ◌≢◌, false, ◌<◌};
 ghost use Rattle.lorentzian.specs.Triangle.{area_sq, area_sq_grad, edge_of, edge_idx, no_triangle, grad_in_pent, grad_outcome, grad_after};
 
-use refusals::{Outcome, Refusal};
+use refusals::Refusal;
 
 // Signed squared area of the triangle of three signed squared lengths.
+#[tactic(auto, unfolding(crate::specs::Triangle::area16, crate::specs::Triangle::area_sq))]
 pub fn triangle_area_sq_lorentzian(s01: f64, s02: f64, s12: f64) -> f64
     ensures { result ≡ area_sq s01 s02 s12 }
 {
@@ -16,6 +17,7 @@ pub fn triangle_area_sq_lorentzian(s01: f64, s02: f64, s12: f64) -> f64
 }
 
 // Gradient of the squared area by s01, s02 and s12.
+#[tactic(auto, unfolding(crate::specs::Triangle::area_sq_grad))]
 pub fn triangle_area_sq_grad(s01: f64, s02: f64, s12: f64) -> [f64; 3]
     ensures { result ≡ area_sq_grad s01 s02 s12 }
 {
@@ -27,6 +29,7 @@ pub fn triangle_area_sq_grad(s01: f64, s02: f64, s12: f64) -> [f64; 3]
 }
 
 // Number of the edge of two of a pentachoron's vertices, the lower one first.
+#[tactic(auto, unfolding(crate::specs::Triangle::edge_of))]
 fn edge_of(low: usize, high: usize) -> usize
     requires { (low < high) × (high < 5) }
     ensures { (result ≡ edge_of low high) × (result < 10) }
@@ -40,6 +43,7 @@ fn edge_of(low: usize, high: usize) -> usize
 }
 
 // Number of the edge of two of a pentachoron's vertices.
+#[tactic(auto, unfolding(crate::specs::Triangle::edge_idx))]
 fn edge_idx(a: usize, b: usize) -> usize
     requires { (a < 5) × (b < 5) × (a ≢ b) }
     ensures { (result ≡ edge_idx a b) × (result < 10) }
@@ -48,28 +52,15 @@ fn edge_idx(a: usize, b: usize) -> usize
 }
 
 // Whether a, b and c are no three of a pentachoron's five vertices.
+#[tactic(auto, unfolding(crate::specs::Triangle::no_triangle))]
 fn no_triangle(a: usize, b: usize, c: usize) -> bool
     ensures { result ≡ no_triangle a b c }
 {
-    if 4 < a {
-        return true;
-    }
-    if 4 < b {
-        return true;
-    }
-    if 4 < c {
-        return true;
-    }
-    if a == b {
-        return true;
-    }
-    if a == c {
-        return true;
-    }
-    b == c
+    4 < a || 4 < b || 4 < c || a == b || a == c || b == c
 }
 
 // Gradient of the squared area of the triangle abc by the pentachoron's ten squared lengths.
+#[tactic(auto, unfolding(crate::specs::Triangle::no_triangle, crate::specs::Triangle::grad_in_pent))]
 fn grad_in_pent(s: &[f64; 10], a: usize, b: usize, c: usize) -> [f64; 10]
     requires { no_triangle a b c ≡ false }
     ensures { result ≡ grad_in_pent s.now a b c }
@@ -91,16 +82,14 @@ pub fn tri_area_sq_grad_in_pent(
     s: &[f64; 10],
     tri_local: [usize; 3],
     grad: &mut [f64; 10],
-) -> Outcome
+) -> Result<(), Refusal>
     ensures value { result ≡ grad_outcome tri_local }
     ensures grad_after { grad.new ≡ grad_after s.now tri_local grad.old }
 {
-    let a = tri_local[0];
-    let b = tri_local[1];
-    let c = tri_local[2];
+    let [a, b, c] = tri_local;
     if no_triangle(a, b, c) {
-        return Outcome::Refused(Refusal::BadIndex);
+        return Err(Refusal::BadIndex);
     }
     *grad = grad_in_pent(s, a, b, c);
-    Outcome::Done
+    Ok(())
 }

@@ -1,21 +1,20 @@
 -- What lists are filled with: the numbers of a line, or the pattern before a call. Definitions only.
-use Rattle.std.specs.Prelude.{ℕ, ◌+◌, ◌*◌, ◌%◌, List, Float}
-use Rattle.std.specs.Float.{binary64}
-use Rattle.std.specs.Float.Ieee.{of_bits}
+use Rattle.std.specs.Prelude.{ℕ, ◌+◌, ◌*◌, ◌%◌, ◌<◌, ◌≡◌, List, length, get_or}
 use Rattle.replay.specs.Hexadecimal.{number_at}
 
--- the lower 32 bits of the i-th number from `at` on, 17 bytes each
-abbrev pub word_in : List ℕ → ℕ → ℕ → ℕ
-word_in s at i = number_at s (at + 17 * i) % 0x1_0000_0000
+-- a list of the same length, whose entry at each place a relation allows
+pub record Made {A : Type 0} (at : ℕ → A → Type 0) (old new : List A) : Type 0 where
+  pub len : length new ≡ length old
+  pub entries : (k : ℕ) (d : A) → k < length old → at k (get_or new k d)
 
--- the double whose bits are that number
-abbrev pub double_in : List ℕ → ℕ → ℕ → Float
-double_in s at i = of_bits binary64 (number_at s (at + 17 * i))
+-- the lower 32 bits of a number
+abbrev pub word_of : ℕ → ℕ
+word_of n = n % 0x1_0000_0000
 
--- the number at a place before a call
+-- the entry of the i-th number from `at` on, 17 bytes each
+abbrev pub entry_in : {A : Type 0} → (ℕ → A) → List ℕ → ℕ → ℕ → A
+entry_in of s at i = of (number_at s (at + 17 * i))
+
+-- the number whose entry stands at a place before a call
 abbrev pub pattern_at : ℕ → ℕ
 pattern_at i = 50000 + i % 10000
-
--- the double at a place before a call
-abbrev pub double_pattern_at : ℕ → Float
-double_pattern_at i = of_bits binary64 (50000 + i % 10000)

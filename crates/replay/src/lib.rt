@@ -2,119 +2,100 @@
 // read and print alike.
 #![tactic(auto)]
 
-ghost use Rattle.std.specs.Prelude.{◌≡◌, cond, map, ◌+◌, ◌*◌, ◌<◌, ◌≤◌, ltb, length, take, drop};
+ghost use Rattle.std.specs.Prelude.{◌≡◌, ◌+◌, ◌*◌, ◌<◌, map, length, take, ℕ};
+ghost use Rattle.std.specs.Float.{binary64};
+ghost use Rattle.std.specs.Float.Ieee.{of_bits};
 ghost use Rattle.lists.specs.Lists.{upto};
-ghost use Rattle.lists.specs.Rows.{over};
 ghost use Rattle.replay.specs.Hexadecimal.{digit_of, spelled, number_at};
-ghost use Rattle.replay.specs.Filled.{pattern_at, double_pattern_at, word_in, double_in};
+ghost use Rattle.replay.specs.Filled.{Made, word_of, entry_in, pattern_at};
 
-pub use printing::{
-    print_double, print_doubles, print_end, print_named, print_number, print_numbers, read_full,
-};
+pub use printing::{Bits, print_row, read_full};
 
-// ---- reading
+// ---- numbers
 
 // The value of a hexadecimal digit in lower case, and 0 for any other byte.
+#[tactic(auto, unfolding(crate::specs::Hexadecimal::digit_of))]
 fn digit(b: u8) -> u64
     ensures { (result ≡ digit_of b) × (result < 16) }
 {
-    let n = b as u64;
-    if n < 48 {
-        return 0;
+    match b {
+        b'0'..=b'9' => u64::from(b - b'0'),
+        b'a'..=b'f' => u64::from(b - b'a') + 10,
+        _ => 0,
     }
-    if n < 58 {
-        return n - 48;
-    }
-    if n < 97 {
-        return 0;
-    }
-    if n < 103 {
-        return n - 87;
-    }
-    0
-}
-
-// The number that the 16 digits from `at` spell.
-fn spelled_at(s: &[u8], at: usize) -> u64
-    requires { at + 16 ≤ length s.now }
-    ensures { result ≡ spelled 0 (take 16 (drop at s.now)) }
-{
-    let mut n: u64 = 0;
-    for i in 0..16 {
-        n = n % 0x1000_0000_0000_0000 * 16 + digit(s[at + i]);
-    }
-    n
 }
 
 // The number that the 16 digits from `at` spell, 0 where they run past the end.
+#[tactic(auto, unfolding(crate::specs::Hexadecimal::number_at))]
 pub fn number(s: &[u8], at: usize) -> u64
     ensures { result ≡ number_at s.now at }
 {
-    if s.len() < 16 {
-        return 0;
-    }
-    if s.len() - 16 < at {
-        return 0;
-    }
-    spelled_at(s, at)
-}
-
-// A number, `most` where it is larger.
-pub fn within(n: usize, most: usize) -> usize
-    ensures { (result ≡ cond (ltb n most) n most) × (result ≤ n) × (result ≤ most) }
-{
-    if n < most {
-        return n;
-    }
-    most
+    let Some(rest) = s.get(at..) else { return 0 };
+    let Some(digits) = rest.get(..16) else {
+        return 0
+    };
+    digits
+        .iter()
+        .fold(0, |n, b| n % 0x1000_0000_0000_0000 * 16 + digit(*b))
 }
 
 // ---- lists
 
-// Writes the lower 32 bits of `count` numbers from `at` on, 17 bytes each, to the front of a list.
-pub fn read_words(s: &[u8], at: usize, count: usize, list: &mut [u32])
-    requires { (count ≤ length list.old) × (at + 17 * count < 0x1_0000_0000) }
-    ensures { list.new ≡ over (map (word_in s.now at) (upto count)) list.old }
-{
-    for i in 0..count {
-        list[i] = (number(s, at + 17 * i) % 0x1_0000_0000) as u32;
+// What a list can hold: a value for each number.
+pub trait Entry: Copy {
+    ghost of_number: { ℕ → Self };
+
+    fn from_number(n: u64) -> Self
+        ensures { result ≡ of_number n };
+}
+
+// The lower 32 bits of a number.
+impl Entry for u32 {
+    ghost of_number = { word_of };
+
+    fn from_number(n: u64) -> u32 {
+        (n % 0x1_0000_0000) as u32
     }
 }
 
-// Writes the doubles whose bits are `count` numbers from `at` on, 17 bytes each, to the front of a list.
-pub fn read_doubles(s: &[u8], at: usize, count: usize, list: &mut [f64])
-    requires { (count ≤ length list.old) × (at + 17 * count < 0x1_0000_0000) }
-    ensures { list.new ≡ over (map (double_in s.now at) (upto count)) list.old }
-{
-    for i in 0..count {
-        list[i] = floats::of_bits(number(s, at + 17 * i));
+// The double whose bits are a number.
+impl Entry for f64 {
+    ghost of_number = { of_bits binary64 };
+
+    fn from_number(n: u64) -> f64 {
+        floats::of_bits(n)
     }
 }
 
-// Fills a list of numbers with the pattern that it has before a call.
-pub fn fill_numbers(list: &mut [u32])
-    ensures { list.new ≡ map pattern_at (upto (length list.old)) }
+// Fills a list with what f gives for each place.
+fn fill<T: Copy, F: Fn(usize) -> T>(list: &mut [T], f: F)
+    requires { (k : ℕ) → k < length list.old → F.pre f k }
+    ensures { Made (F.post f) list.old list.new }
 {
+    // By index: after a loop over `iter_mut` a proof knows the length of the list, and no entry.
     for i in 0..list.len() {
-        list[i] = 50000 + (i % 10000) as u32;
+        list[i] = f(i);
     }
 }
 
-// Fills a list of doubles with the pattern that it has before a call.
-pub fn fill_doubles(list: &mut [f64])
-    ensures { list.new ≡ map double_pattern_at (upto (length list.old)) }
+// Fills a list with the entries of the numbers from `at` on, 17 bytes each.
+pub fn read_list<T: Entry>(s: &[u8], at: usize, list: &mut [T])
+    requires { at + 17 * length list.old < 0x1_0000_0000 }
+    ensures { list.new ≡ map (entry_in T.of_number s.now at) (upto (length list.old)) }
 {
-    for i in 0..list.len() {
-        list[i] = floats::of_bits(50000 + (i % 10000) as u64);
-    }
+    fill(list, |i| T::from_number(number(s, at + 17 * i)));
+}
+
+// Fills a list with the pattern that it has before a call.
+pub fn fill_pattern<T: Entry>(list: &mut [T])
+    ensures { list.new ≡ map (λ i. T.of_number (pattern_at i)) (upto (length list.old)) }
+{
+    fill(list, |i| T::from_number(50000 + i as u64 % 10000));
 }
 
 // The first `n` places of a list, all of them where it has fewer.
-pub fn first<'a>(list: &'a [u32], n: usize) -> &'a [u32]
+pub fn first<T>(list: &[T], n: usize) -> &[T]
     ensures { result.now ≡ take n list.now }
 {
-    if n < list.len() {
-        return &list[..n];
-    }
-    list
+    &list[..n.min(list.len())]
 }

@@ -1,17 +1,10 @@
 -- `geometry::det_4x4` meets its contract. Assumes nothing.
-use Rattle.geometry.specs.Determinant.{at, sign, expand, det4}
+use mathlib.Core.Path.{refl}
+use Rattle.std.proofs.Common.{rules}
+use Rattle.floats.specs.Algebra.{doubles}
+use Rattle.geometry.specs.Determinant.{det3, det4}
 use Rattle.geometry.proofs.det_4x4.Goals as goal
 
 pub returns : goal.returns
-unfolding at sign expand det4
-returns c =
-    rw (
-      c.det_3x3.ensures,
-      c.minor_4x4.ensures,
-      c.det_3x3-2.ensures,
-      c.minor_4x4-2.ensures,
-      c.det_3x3-3.ensures,
-      c.minor_4x4-3.ensures,
-      c.det_3x3-4.ensures,
-      c.minor_4x4-4.ensures,
-    )
+unfolding det4
+returns c = c.expand.ensures c.args.m.now (det3 doubles) 3 refl (λ col y h k. search rules)

@@ -1,0 +1,2 @@
+-- Laws on numbers as text.
+pub mod Digits
