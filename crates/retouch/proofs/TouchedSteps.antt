@@ -141,13 +141,12 @@ pub record Passed (x : Complex) (pe pt : List ℕ) (n e : ℕ) : Type 0 where
 pub retouch-passed : (x : Complex) {pe pt : List ℕ} (n e : ℕ) → BuiltWith x.counts (lists_of x) pe pt → lengths_check_of x.counts n Done ≡ Done → edge_check_of x.counts e Done ≡ Done → Passed x pe pt n e
 retouch-passed x {pe} {pt} n e w lengths edge =
     let counted = (lengths-passed x.counts n Done lengths).0 in
-    let measured = λ m k. built-measured x.counts (lists_of x) pe pt m w (k ∙ counted) in
     record {
-      measured = measured;
+      measured = λ m k. built-measured x.counts (lists_of x) pe pt m w (k ∙ counted);
       on_pents = built-edge-to-pents x.counts (lists_of x) (said (built-says x.counts (lists_of x)) w.built);
       counted = counted;
       inside = (edge-passed x.counts e Done edge).0;
-      few = (measured n refl).few;
+      few = (built-measured x.counts (lists_of x) pe pt n w counted).few;
     }
 
 -- ---- the lists that are lent
