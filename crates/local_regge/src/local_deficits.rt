@@ -27,10 +27,10 @@ fn write_hinges(
     ensures { (deficits.new ≡ over (deficits_of (map (hinge_in (hinges (faces_of built.now.complex) sq_lengths.now)) tris.now)) deficits.old)
         × (kinds.new ≡ over (kinds_of (map (hinge_in (hinges (faces_of built.now.complex) sq_lengths.now)) tris.now)) kinds.old) }
 {
-    for ((t, deficit), kind) in tris.iter().zip(deficits).zip(kinds) {
+    for (k, t) in tris.iter().enumerate() {
         let hinge = hinge_at(&built.complex, &built.incidence, sq_lengths, TriangleNumber(*t));
-        *deficit = hinge.deficit;
-        *kind = hinge.kind.number();
+        deficits[k] = hinge.deficit;
+        kinds[k] = hinge.kind.number();
     }
 }
 
@@ -50,7 +50,7 @@ pub fn local_deficit_angles_built(
     let counts = built.complex.counts;
     check_lengths(counts, sq_lengths.len())?;
     check_free(counts, free_edges)?;
-    let mut marks = [0u8; 81920];
+    let mut marks = [false; 81920];
     mark_tris(&built.complex, free_edges, &mut marks);
     let count = count_marked(counts.triangles, &marks);
     check_room(tris.len() < count || deficits.len() < count || kinds.len() < count)?;

@@ -21,13 +21,13 @@ use marks::mark_tris;
 use refusals::Refusal;
 
 // What the marked triangles add at their edges, in their order.
-fn add_marked_contributions(built: &BuiltComplex<'_>, sq_lengths: &[f64], marks: &[u8], entries: &mut [f64])
+fn add_marked_contributions(built: &BuiltComplex<'_>, sq_lengths: &[f64], marks: &[bool], entries: &mut [f64])
     requires { (length sq_lengths.now ≡ built.now.complex.counts.edges)
         × (built.now.complex.counts.triangles ≤ length marks.now) × (built.now.complex.counts.edges ≤ length entries.old) }
     ensures { entries.new ≡ scatter nan ◌⊕◌ (gather (contributions (faces_of built.now.complex) sq_lengths.now (deficits_of (hinges (faces_of built.now.complex) sq_lengths.now))) (marked_below built.now.complex.counts.triangles marks.now)) entries.old }
 {
     for t in 0..built.complex.counts.triangles as u32 {
-        if marks[t as usize] == 1 {
+        if marks[t as usize] {
             let tri = TriangleNumber(t);
             let own = tri_edge_indices(&built.complex, &built.incidence, tri);
             let s = tri_sq_lengths(own, sq_lengths);
@@ -42,8 +42,8 @@ fn write_entries(free_edges: &[u32], entries: &[f64], grad: &mut [f64])
     requires { Below free_edges.now (length entries.now) × (length free_edges.now ≤ length grad.old) }
     ensures { grad.new ≡ over (map (λ e. get_or entries.now e nan) free_edges.now) grad.old }
 {
-    for (e, entry) in free_edges.iter().zip(grad) {
-        *entry = entries[*e as usize];
+    for (k, e) in free_edges.iter().enumerate() {
+        grad[k] = entries[*e as usize];
     }
 }
 
@@ -62,7 +62,7 @@ pub fn local_lorentzian_regge_action_grad_built(
     check_lengths(counts, sq_lengths.len())?;
     check_free(counts, free_edges)?;
     check_room(grad.len() < free_edges.len())?;
-    let mut marks = [0u8; 81920];
+    let mut marks = [false; 81920];
     mark_tris(&built.complex, free_edges, &mut marks);
     let mut entries = [0.0; 81920];
     add_marked_contributions(built, sq_lengths, &marks, &mut entries);
