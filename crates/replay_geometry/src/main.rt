@@ -7,7 +7,7 @@
 ghost use Rattle.std.specs.Prelude.{◌+◌, ◌<◌, ◌≤◌, length, IfOk};
 
 use lorentzian::{Dihedral, HingeType, edge_idx, triangle_area_sq_lorentzian};
-use replay::{Bits, Entry, print_row, read_list};
+use replay::{Bits, Entry, print_lines, print_row, read_full, read_list};
 use std::fmt;
 use std::fmt::Display;
 use std::io::Result;
@@ -182,19 +182,9 @@ fn print_line(rt: &impl Print, text: &[u8], at: usize) -> Result<usize>
     Ok(at + given.line_len())
 }
 
-// The answers to each line of the text.
-fn print_lines(rt: &impl Print, text: &[u8]) -> Result<()>
-    requires { length text.now < 0x1_0001 }
-{
-    let mut at = 0;
-    while at < text.len() {
-        at = print_line(rt, text, at)?;
-    }
-    Ok(())
-}
-
 fn main(rt: HostRuntime) -> Result<()> {
     let mut text = [0u8; 65536];
-    let n = replay::read_full(rt.stdin(), &mut text)?;
-    print_lines(&rt, &text[..n])
+    let n = read_full(rt.stdin(), &mut text)?;
+    let text = &text[..n];
+    print_lines(n, |at| print_line(&rt, text, at))
 }
