@@ -1,7 +1,7 @@
 -- `hinges::triangle::hinge_at` meets its contract. Assumes nothing.
 use Rattle.std.specs.Prelude.{None}
 use Prim.Native.Nat.{ℕ}
-use mathlib.Core.Path.{◌≡◌, refl, sym, ap, ◌∙◌}
+use mathlib.Core.Path.{◌≡◌, sym, ap, ◌∙◌}
 use mathlib.Core.List.{[]}
 use native.Mathlib.Omega.{arith}
 use lib.ListN.{length, get_or, take}

@@ -1,5 +1,5 @@
 -- `hinges::zeros::zero_all` meets its contract. Assumes nothing.
-use Rattle.std.proofs.Common.{◌≡◌, ap, ◌∙◌, ◌++◌, replicate, length, take, drop, rules}
+use Rattle.std.proofs.Common.{◌≡◌, replicate, length, take, rules}
 use lib.ListN.{length-replicate}
 use lib.Seq.{length-take-le}
 use Rattle.floats.specs.Ops.{zero}
