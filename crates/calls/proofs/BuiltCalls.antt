@@ -1,6 +1,8 @@
 -- What a call over a complex has where its checks let it pass, and what it answers where they don't. Assumes nothing.
 use Rattle.refusals.specs.Refusals.{Done, Outcome}
-use Rattle.std.specs.Prelude.{Err}
+use Rattle.std.specs.Prelude.{Err, Result}
+use Rattle.std.specs.Result.{IsErrAnd}
+use Rattle.std.proofs.lemmas.Result.{err_from_is_err_and}
 use Prim.Native.Nat.{ℕ, ◌*◌, ◌≤◌, ◌<◌}
 use mathlib.Core.Bool.{Bool, true, false, not, cond}
 use mathlib.Core.List.{List, map, Memᴰ}
@@ -34,7 +36,7 @@ use Rattle.hinges.specs.Hinges.{FaceLists, built_faces, faces_in, hinges, hinge_
 use Rattle.hinges.specs.Parts.{Measured, IsMeasured}
 use Rattle.hinges.proofs.OnePass.{built-one_pass}
 use Rattle.calls.specs.declared.built.BuiltComplex.{BuiltComplex}
-use Rattle.calls.specs.Calls.{BuiltWith, lengths_check_of, free_check_of, built_check_of, room_check_of, triangle_check_of}
+use Rattle.calls.specs.Calls.{BuiltWith, lengths_check_of, free_check_of, built_check_of, room_check_of, triangle_check_of, Filled}
 
 -- ---- a built complex
 
@@ -97,6 +99,10 @@ built-table c l ls h =
 -- an outcome is not both
 pub done-not-refused : {r : Refusal} → Done ≡ Err r → ⊥
 done-not-refused e = let z : ◌≡◌ {A = ℕ} 0 1 = cc in omega arith
+
+-- what a `?` returns where a check refuses
+pub returned : {T : Type 0} (r : Result T Refusal) (e : Refusal) → IsErrAnd r (λ y. y ≡ e) → r ≡ Err e
+returned r e h = let p = err_from_is_err_and r h in p.1 ∙ ap Err p.2
 
 -- a check that refuses does so whatever the checks after it say
 pub cond-refused : {r : Refusal} (b : Bool) (e : Refusal) (others : Outcome) → cond b (Err e) Done ≡ Err r → cond b (Err e) others ≡ Err r
@@ -188,3 +194,14 @@ built-refused c l others h = cond-refused (not (is_built c l)) NotBuilt others h
 pub built-decided : (c : Counts) (l : Lists) (others : Outcome) → built_check_of c l Done ≡ Done → built_check_of c l others ≡ others
 unfolding built_check_of
 built-decided c l others h = cond-decided (not (is_built c l)) NotBuilt others h
+
+-- ---- a list that is filled
+
+module _ {o : Outcome} {content old : List Float} where
+  -- a refused call leaves it as it was
+  pub filled-refused : {r : Outcome} {e : Refusal} → o ≡ Err e → r ≡ Err e → Filled o content old r old
+  filled-refused f e = record { answered = e ∙ sym f; entries = rw e refl }
+
+  -- what holds of checks holds of others that say the same
+  pub filled-same : {u r : Outcome} {new : List Float} → o ≡ u → Filled o content old r new → Filled u content old r new
+  filled-same e f = record { answered = f.answered ∙ e; entries = f.entries }

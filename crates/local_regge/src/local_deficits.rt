@@ -1,5 +1,5 @@
 // The deficits of the triangles on free edges.
-ghost use Rattle.std.specs.Prelude.{◌≡◌, map, ◌≤◌, length};
+ghost use Rattle.std.specs.Prelude.{◌≡◌, ◌||◌, map, ◌≤◌, ltb, length};
 ghost use Rattle.lists.specs.Rows.{over};
 ghost use Rattle.lists.specs.Groups.{Below};
 ghost use Rattle.complex.specs.Lent.{lists_of};
@@ -14,6 +14,13 @@ use incidence::TriangleNumber;
 use marks::{count_marked, list_marked, mark_tris};
 use refusals::Refusal;
 
+// Whether a list has fewer than `count` places.
+fn lacks_room(count: usize, tris: usize, deficits: usize, kinds: usize) -> bool
+    ensures { result ≡ (ltb tris count || ltb deficits count || ltb kinds count) }
+{
+    tris < count || deficits < count || kinds < count
+}
+
 // Writes the deficits and kinds of the triangles of a list.
 fn write_hinges(
     built: &BuiltComplex<'_>,
@@ -27,10 +34,10 @@ fn write_hinges(
     ensures { (deficits.new ≡ over (deficits_of (map (hinge_in (hinges (faces_of built.now.complex) sq_lengths.now)) tris.now)) deficits.old)
         × (kinds.new ≡ over (kinds_of (map (hinge_in (hinges (faces_of built.now.complex) sq_lengths.now)) tris.now)) kinds.old) }
 {
-    for ((t, deficit), kind) in tris.iter().zip(deficits).zip(kinds) {
+    for (k, t) in tris.iter().enumerate() {
         let hinge = hinge_at(&built.complex, &built.incidence, sq_lengths, TriangleNumber(*t));
-        *deficit = hinge.deficit;
-        *kind = hinge.kind.number();
+        deficits[k] = hinge.deficit;
+        kinds[k] = hinge.kind.number();
     }
 }
 
@@ -53,7 +60,7 @@ pub fn local_deficit_angles_built(
     let mut marks = [false; 81920];
     mark_tris(&built.complex, free_edges, &mut marks);
     let count = count_marked(counts.triangles, &marks);
-    check_room(tris.len() < count || deficits.len() < count || kinds.len() < count)?;
+    check_room(lacks_room(count, tris.len(), deficits.len(), kinds.len()))?;
     list_marked(counts.triangles, &marks, tris);
     write_hinges(built, sq_lengths, &tris[..count], deficits, kinds);
     Ok(count)

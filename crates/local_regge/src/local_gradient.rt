@@ -42,8 +42,8 @@ fn write_entries(free_edges: &[u32], entries: &[f64], grad: &mut [f64])
     requires { Below free_edges.now (length entries.now) × (length free_edges.now ≤ length grad.old) }
     ensures { grad.new ≡ over (map (λ e. get_or entries.now e nan) free_edges.now) grad.old }
 {
-    for (e, entry) in free_edges.iter().zip(grad) {
-        *entry = entries[*e as usize];
+    for (k, e) in free_edges.iter().enumerate() {
+        grad[k] = entries[*e as usize];
     }
 }
 

@@ -6,7 +6,7 @@ ghost use Rattle.hinges.specs.Hinges.{faces_of, hinges, hinge_in};
 ghost use Rattle.calls.specs.Calls.{lengths_check_of, built_check_of, room_check_of, triangle_check_of, short_table};
 ghost use Rattle.lorentzian_regge.specs.Answers.{Tabled};
 
-use calls::{BuiltComplex, check_lengths, check_noting, check_room, check_triangle};
+use calls::{BuiltComplex, check_lengths, check_noting, check_table, check_triangle};
 use complex::{Complex, Incidence};
 use hinges::{Hinge, hinge_at};
 use incidence::TriangleNumber;
@@ -28,7 +28,7 @@ pub fn lorentzian_deficit_angles_built(
 {
     let counts = built.complex.counts;
     check_lengths(counts, sq_lengths.len())?;
-    check_room(deficits.len() < counts.triangles || kinds.len() < counts.triangles)?;
+    check_table(counts, deficits.len(), kinds.len())?;
     write_table(&built.complex, &built.incidence, sq_lengths, deficits, kinds);
     Ok(())
 }

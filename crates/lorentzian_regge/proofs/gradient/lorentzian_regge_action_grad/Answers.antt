@@ -1,0 +1,10 @@
+-- `lorentzian_regge::gradient::lorentzian_regge_action_grad` meets its contract. Assumes nothing.
+use mathlib.Core.Path.{sym}
+use Rattle.calls.proofs.BuiltCalls.{returned, built-refused, built-decided, filled-refused, filled-same}
+use Rattle.lorentzian_regge.proofs.gradient.lorentzian_regge_action_grad.Goals as goal
+
+pub returns-in_err-check_noting : goal.returns-in_err-check_noting
+returns-in_err-check_noting c = filled-refused (built-refused _ _ _ (sym c.in_err-check_noting.ensures.outcome)) (returned _ _ c.from_residual.ensures.1)
+
+pub returns : goal.returns
+returns c = filled-same (sym (built-decided _ _ _ (sym c.in_ok-check_noting.ensures.outcome))) c.lorentzian_regge_action_grad_built.ensures
