@@ -1,19 +1,18 @@
--- The examples P1 to P9 of the scope paper as one list, and the one claim made of each: what a definition gives is what the paper says. Definitions only.
-use Rattle.std.specs.Prelude.{ℕ, suc, ◌/◌, ◌%◌, ◌≡◌, Bool, true, cond, List, [], ◌∷◌, ◌++◌, eqb, replicate, Float}
+-- The examples P1 to P9 as one list, and the one claim made of each: what a definition gives is what is said of it. Definitions only.
+use Rattle.std.specs.Prelude.{ℕ, suc, ◌/◌, ◌%◌, ◌≡◌, Bool, true, cond, List, [], ◌∷◌, ◌++◌, eqb, replicate, Float, Ok}
 use Rattle.std.specs.Float.{nan}
 use Rattle.std.specs.Float.Ieee.{neg, lt}
 use Rattle.floats.specs.Ops.{◌⊗◌, dbl, zero, half, one, two}
 use Rattle.floats.specs.Algebra.{doubles}
 use Rattle.root.specs.Root.{root_of}
-use Rattle.complex.specs.declared.Built.{Built}
-use Rattle.complex.specs.declared.Built.TheVariants.{Done}
+use Rattle.refusals.specs.Refusals.{number_in, place_in}
 use Rattle.complex.specs.Complex.{tri_to_pents}
 use Rattle.complex.specs.Check.{room_for}
-use Rattle.complex.specs.Builder.{sorted_pents, check_of, built_of, built_number, built_place}
+use Rattle.complex.specs.Builder.{sorted_pents, check_of, Built, built_of}
 use Rattle.geometry.specs.Determinant.{table, cofactor}
 use Rattle.geometry.specs.CayleyMenger.{cm}
 use Rattle.lorentzian.specs.Triangle.{area_sq, area_sq_grad}
-use Rattle.lorentzian.specs.Dihedral.{kind_of, ratio_of, compute_dihedral, lorentzian_dihedral, pairs}
+use Rattle.lorentzian.specs.Dihedral.{kind_of, ratio_of, compute_dihedral, dihedral_by, lorentzian_dihedral, pairs}
 use Rattle.lorentzian.specs.declared.dihedral.HingeType.{HingeType}
 use Rattle.lorentzian.specs.declared.dihedral.HingeType.TheVariants.{Spacelike, Timelike}
 use Rattle.lorentzian.specs.declared.dihedral.Dihedral.{Dihedral}
@@ -31,7 +30,7 @@ pub data Answer : Type 0 where
   naturals : List ℕ → Answer
   rows : List (List ℕ) → Answer
 
--- an example of the paper: its number, what the definitions give, and what the paper says
+-- an example: its number, what the definitions give, and what is said of it
 pub record Example : Type 0 where
   pub number : ℕ
   pub given : Answer
@@ -62,7 +61,7 @@ ratio s l m = ratio_of (C s l m) (C s l l) (root_of (C s l l ⊗ C s m m))
 
 -- the dihedral of the pair by the first rule
 abbrev pub first : List Float → ℕ → ℕ → Dihedral
-first s l m = compute_dihedral (C s l m) (C s l l) (C s m m)
+first = dihedral_by compute_dihedral
 
 -- 4, 8, 16 and 0.25
 abbrev pub four : Float
@@ -143,7 +142,7 @@ neighbours = 0 ∷ 1 ∷ 2 ∷ 3 ∷ 4 ∷ 1 ∷ 2 ∷ 3 ∷ 4 ∷ 5 ∷ []
 
 -- they have 14 edges, 16 triangles and 9 tets
 abbrev pub p5 : List Example
-p5 = example 5 (built (build 6 2 neighbours)) (built (Done (record { vertices = 6; pentachorons = 2; edges = 14; triangles = 16; tets = 9 }))) ∷ []
+p5 = example 5 (built (build 6 2 neighbours)) (built (Ok (record { vertices = 6; pentachorons = 2; edges = 14; triangles = 16; tets = 9 }))) ∷ []
 
 -- pentachoron 4,3,2,1,0 twice
 abbrev pub twice : List ℕ
@@ -152,7 +151,7 @@ twice = 4 ∷ 3 ∷ 2 ∷ 1 ∷ 0 ∷ 4 ∷ 3 ∷ 2 ∷ 1 ∷ 0 ∷ []
 -- it has 10 edges, and each triangle two pentachorons
 abbrev pub p6 : List Example
 p6 =
-    example 6 (built (build 5 2 twice)) (built (Done (record { vertices = 5; pentachorons = 2; edges = 10; triangles = 10; tets = 5 })))
+    example 6 (built (build 5 2 twice)) (built (Ok (record { vertices = 5; pentachorons = 2; edges = 10; triangles = 10; tets = 5 })))
     ∷ example 6 (rows (tri_to_pents (sorted_pents twice))) (rows (replicate 10 (0 ∷ 1 ∷ [])))
     ∷ []
 
@@ -160,7 +159,7 @@ p6 =
 
 -- the number and the place of a refusal
 abbrev pub refusal : Built → Answer
-refusal b = naturals (built_number b ∷ built_place b ∷ [])
+refusal b = naturals (number_in b ∷ place_in b ∷ [])
 
 -- vertex 5 of 5 gives refusal 3
 abbrev pub p7 : List Example

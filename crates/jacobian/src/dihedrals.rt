@@ -10,10 +10,11 @@ use lorentzian::{Dihedral, dihedral_by_root, ten_dihedrals};
 pub fn all_lorentzian_dihedrals(s: &[f64; 10]) -> [Dihedral; 10]
     ensures { result ≡ all_dihedrals s.now }
 {
+    // A closure, as the check does not know another crate's function by its name alone.
     ten_dihedrals(s, |c_lm, c_ll, c_mm| dihedral_by_root(c_lm, c_ll, c_mm))
 }
 
-// ---- ten dihedrals as plain lists
+// ---- ten dihedrals as plain lists, which C is given: a list of numbers and one of kinds
 
 // Their numbers.
 pub fn dihedral_values(d: [Dihedral; 10]) -> [f64; 10]

@@ -96,7 +96,7 @@ fn of_mixed(c_lm: f64, denom: f64) -> Dihedral
 
 // ---- the first rule
 
-// The dihedral of three cofactors, by the rule that tests the product (lorentzian_regge.rs).
+// The dihedral of three cofactors, by the rule that tests the product (lorentzian_regge.rs). C passes the three apart.
 #[tactic(auto, unfolding(crate::specs::Dihedral::compute_dihedral))]
 pub fn compute_dihedral(c_lm: f64, c_ll: f64, c_mm: f64) -> Dihedral
     ensures { result ≡ compute_dihedral c_lm c_ll c_mm }
@@ -159,6 +159,7 @@ pub fn ten_dihedrals<R: Fn(f64, f64, f64) -> Dihedral>(s: &[f64; 10], rule: R) -
     ensures { (f : Float → Float → Float → Dihedral) → Gives (R.post rule) f → result ≡ pairs (dihedral_by f s.now) }
 {
     let c = cm_cofactors(s);
+    // Written out: loops over the pairs would count two places by hand.
     let c00 = c[0];
     let c11 = c[5];
     let c22 = c[9];

@@ -44,7 +44,7 @@ fn edge_of(low: usize, high: usize) -> usize
 
 // Number of the edge of two of a pentachoron's vertices.
 #[tactic(auto, unfolding(crate::specs::Triangle::edge_idx))]
-fn edge_idx(a: usize, b: usize) -> usize
+pub fn edge_idx(a: usize, b: usize) -> usize
     requires { (a < 5) × (b < 5) × (a ≢ b) }
     ensures { (result ≡ edge_idx a b) × (result < 10) }
 {

@@ -2,14 +2,15 @@
 // read and print alike.
 #![tactic(auto)]
 
-ghost use Rattle.std.specs.Prelude.{◌≡◌, ◌+◌, ◌*◌, ◌<◌, map, length, take, ℕ};
+ghost use Rattle.std.specs.Prelude.{◌≡◌, ◌+◌, ◌*◌, ◌<◌, map, length, take, set, ℕ, Ok};
 ghost use Rattle.std.specs.Float.{binary64};
 ghost use Rattle.std.specs.Float.Ieee.{of_bits};
 ghost use Rattle.lists.specs.Lists.{upto};
-ghost use Rattle.replay.specs.Hexadecimal.{digit_of, spelled, number_at};
+ghost use Rattle.replay.specs.Hexadecimal.{digit_of, number_at};
 ghost use Rattle.replay.specs.Filled.{Made, word_of, entry_in, pattern_at};
 
 pub use printing::{Bits, print_row, read_full};
+use std::io::Result;
 
 // ---- numbers
 
@@ -98,4 +99,58 @@ pub fn first<T>(list: &[T], n: usize) -> &[T]
     ensures { result.now ≡ take n list.now }
 {
     &list[..n.min(list.len())]
+}
+
+// Puts a value at a place of a list, where it has that place.
+pub fn put<T: Copy>(list: &mut [T], place: usize, value: T)
+    ensures { list.new ≡ set list.old place value }
+{
+    if place < list.len() {
+        list[place] = value;
+    }
+}
+
+// ---- lines
+
+// A line of numbers: 16 digits each, and a byte after them.
+#[derive(Clone, Copy)]
+pub struct Line<'a>(pub &'a [u8]);
+
+impl Line<'_> {
+    // The i-th number.
+    pub fn number(self, i: usize) -> u64
+        requires { i < 0x1000_0000 }
+        ensures { result ≡ number_at self.entry.0.now (17 * i) }
+    {
+        number(self.0, 17 * i)
+    }
+
+    // The i-th number as a size.
+    pub fn size(self, i: usize) -> usize
+        requires { i < 0x1000_0000 }
+        ensures { result ≡ number_at self.entry.0.now (17 * i) }
+    {
+        self.number(i) as usize
+    }
+
+    // The entry of the i-th number.
+    pub fn entry<T: Entry>(self, i: usize) -> T
+        requires { i < 0x1000_0000 }
+        ensures { result ≡ T.of_number (number_at self.entry.0.now (17 * i)) }
+    {
+        T::from_number(self.number(i))
+    }
+}
+
+// Prints the answers to each line of a text of `len` bytes: `print_line` prints those to the line that starts at a place, and answers
+// where the next line starts.
+pub fn print_lines<F: Fn(usize) -> Result<usize>>(len: usize, print_line: F) -> Result<()>
+    requires can { (at : ℕ) → at < len → F.pre print_line at }
+    requires advances { (at : ℕ) (next : ℕ) → at < len → F.post print_line at (Ok next) → at < next }
+{
+    let mut at = 0;
+    while at < len {
+        at = print_line(at)?;
+    }
+    Ok(())
 }

@@ -6,202 +6,111 @@
 
 ghost use Rattle.std.specs.Prelude.{◌+◌, ◌<◌, ◌≤◌, length, IfOk};
 
-use lorentzian::{Dihedral, DihedralAnswer};
-use replay::{print_double, print_end};
+use lorentzian::{Dihedral, HingeType, edge_idx, triangle_area_sq_lorentzian};
+use replay::{Bits, Entry, print_lines, print_row, read_full, read_list};
+use std::fmt;
+use std::fmt::Display;
 use std::io::Result;
 
-// The lengths of both kinds of line.
-const SIMPLEX: usize = 189;
-
-const COFACTORS: usize = 53;
-
 // ---- reading
+
+// What a line gives.
+#[derive(Clone, Copy)]
+enum Given {
+    Simplex,
+    Cofactors,
+}
+
+impl From<u8> for Given {
+    fn from(letter: u8) -> Given {
+        match letter {
+            b'p' => Given::Simplex,
+            _ => Given::Cofactors,
+        }
+    }
+}
+
+impl Given {
+    // The length of its line.
+    fn line_len(self) -> usize
+        ensures { (0 < result) × (result < 256) }
+    {
+        match self {
+            Given::Simplex => 189,
+            Given::Cofactors => 53,
+        }
+    }
+}
 
 // The i-th number of the line that starts at `at`.
 fn number_at(text: &[u8], at: usize, i: usize) -> f64
     requires { (at ≤ length text.now) × (i < 11) }
 {
-    floats::of_bits(replay::number(text, at + 2 + 17 * i))
-}
-
-// The squared lengths of the line that starts at `at`.
-fn lengths_at(text: &[u8], at: usize) -> [f64; 10]
-    requires { at ≤ length text.now }
-{
-    [
-        number_at(text, at, 0),
-        number_at(text, at, 1),
-        number_at(text, at, 2),
-        number_at(text, at, 3),
-        number_at(text, at, 4),
-        number_at(text, at, 5),
-        number_at(text, at, 6),
-        number_at(text, at, 7),
-        number_at(text, at, 8),
-        number_at(text, at, 9),
-    ]
+    f64::from_number(replay::number(text, at + 2 + 17 * i))
 }
 
 // ---- printing
 
-// The number and the kind of a dihedral.
-fn print_dihedral(rt: &impl Print, d: Dihedral) -> Result<()> {
-    print_double(rt, d.value())?;
-    if d.kind_number() == 0 {
-        return rt.write_all(b" S");
+// A dihedral's number, and the letter of its kind.
+#[derive(Clone, Copy)]
+struct Shown(Dihedral);
+
+impl Display for Shown {
+    fn fmt<W: fmt::Write>(&self, f: &mut fmt::Formatter<W>) -> fmt::Result {
+        let letter = match self.0.kind() {
+            HingeType::Spacelike => "S",
+            HingeType::Timelike => "T",
+        };
+        let number = Bits(self.0.value());
+        write!(f, "{number} {letter}")
     }
-    rt.write_all(b" T")
 }
 
 // ---- a simplex
 
-// One cofactor of the matrix.
-fn print_cofactor(rt: &impl Print, m: &[[f64; 6]; 6], row: usize, col: usize) -> Result<()> {
-    print_double(rt, geometry::cofactor_6x6(m, row, col).value_or(0.0))
-}
-
-// A row of cofactors.
-fn print_row(rt: &impl Print, m: &[[f64; 6]; 6], row: usize) -> Result<()> {
-    print!(rt; "row {row}")?;
-    for col in 0..6 {
-        print_cofactor(rt, m, row, col)?;
-    }
-    print_end(rt)
-}
-
 // The 15 cofactors at once, then all 36, row after row.
 fn print_cofactors(rt: &impl Print, s: &[f64; 10]) -> Result<()> {
-    rt.write_all(b"cofactors")?;
-    let c = geometry::cm_cofactors(s);
-    for k in 0..15usize {
-        print_double(rt, c[k])?;
-    }
-    print_end(rt)?;
+    print!(rt; "cofactors")?;
+    print_row(rt, geometry::cm_cofactors(s).iter().map(|c| Bits(*c)))?;
     let m = geometry::cm_matrix_signed(s);
     for row in 0..6 {
-        print_row(rt, &m, row)?;
-    }
-    Ok(())
-}
-
-// Ten numbers.
-fn print_gradient(rt: &impl Print, grad: &[f64; 10]) -> Result<()> {
-    for e in 0..10usize {
-        print_double(rt, grad[e])?;
+        print!(rt; "row {row}")?;
+        print_row(
+            rt,
+            (0..6).map(|col| Bits(geometry::cofactor_6x6(&m, row, col).unwrap_or(0.0))),
+        )?;
     }
     Ok(())
 }
 
 // The squared area of a triangle and its gradient by the ten squared lengths.
-fn print_triangle(
-    rt: &impl Print,
-    s: &[f64; 10],
-    a: usize,
-    b: usize,
-    c: usize,
-    area: f64,
-) -> Result<()> {
-    print!(rt; "triangle {a}{b}{c}")?;
-    print_double(rt, area)?;
+fn print_triangle(rt: &impl Print, s: &[f64; 10], a: usize, b: usize, c: usize) -> Result<()>
+    requires { (a < b) × (b < c) × (c < 5) }
+{
+    let area = triangle_area_sq_lorentzian(s[edge_idx(a, b)], s[edge_idx(a, c)], s[edge_idx(b, c)]);
+    print!(rt; "triangle {a}{b}{c} {}", Bits(area))?;
     let mut grad = [0.0; 10];
-    lorentzian::tri_area_sq_grad_in_pent(s, [a, b, c], &mut grad);
-    print_gradient(rt, &grad)?;
-    print_end(rt)
+    let _ = lorentzian::tri_area_sq_grad_in_pent(s, [a, b, c], &mut grad);
+    print_row(rt, grad.iter().map(|x| Bits(*x)))
 }
 
 // The ten triangles.
 fn print_triangles(rt: &impl Print, s: &[f64; 10]) -> Result<()> {
-    print_triangle(
-        rt,
-        s,
-        0,
-        1,
-        2,
-        lorentzian::triangle_area_sq_lorentzian(s[0], s[1], s[4]),
-    )?;
-    print_triangle(
-        rt,
-        s,
-        0,
-        1,
-        3,
-        lorentzian::triangle_area_sq_lorentzian(s[0], s[2], s[5]),
-    )?;
-    print_triangle(
-        rt,
-        s,
-        0,
-        1,
-        4,
-        lorentzian::triangle_area_sq_lorentzian(s[0], s[3], s[6]),
-    )?;
-    print_triangle(
-        rt,
-        s,
-        0,
-        2,
-        3,
-        lorentzian::triangle_area_sq_lorentzian(s[1], s[2], s[7]),
-    )?;
-    print_triangle(
-        rt,
-        s,
-        0,
-        2,
-        4,
-        lorentzian::triangle_area_sq_lorentzian(s[1], s[3], s[8]),
-    )?;
-    print_triangle(
-        rt,
-        s,
-        0,
-        3,
-        4,
-        lorentzian::triangle_area_sq_lorentzian(s[2], s[3], s[9]),
-    )?;
-    print_triangle(
-        rt,
-        s,
-        1,
-        2,
-        3,
-        lorentzian::triangle_area_sq_lorentzian(s[4], s[5], s[7]),
-    )?;
-    print_triangle(
-        rt,
-        s,
-        1,
-        2,
-        4,
-        lorentzian::triangle_area_sq_lorentzian(s[4], s[6], s[8]),
-    )?;
-    print_triangle(
-        rt,
-        s,
-        1,
-        3,
-        4,
-        lorentzian::triangle_area_sq_lorentzian(s[5], s[6], s[9]),
-    )?;
-    print_triangle(
-        rt,
-        s,
-        2,
-        3,
-        4,
-        lorentzian::triangle_area_sq_lorentzian(s[7], s[8], s[9]),
-    )
+    for a in 0..5 {
+        for b in a + 1..5 {
+            for c in b + 1..5 {
+                print_triangle(rt, s, a, b, c)?;
+            }
+        }
+    }
+    Ok(())
 }
 
 // The dihedral of l and m, which is none where they are the same.
 fn print_pair(rt: &impl Print, s: &[f64; 10], l: usize, m: usize) -> Result<()> {
     match lorentzian::lorentzian_dihedral(s, l, m) {
-        DihedralAnswer::Done(dihedral) => {
-            print!(rt; "dihedral {l} {m}")?;
-            print_dihedral(rt, dihedral)?;
-            print_end(rt)
-        }
-        DihedralAnswer::Refused(_) => Ok(()),
+        Ok(dihedral) => println!(rt; "dihedral {l} {m} {}", Shown(dihedral)),
+        Err(_) => Ok(()),
     }
 }
 
@@ -212,30 +121,21 @@ fn print_dihedrals(rt: &impl Print, s: &[f64; 10]) -> Result<()> {
             print_pair(rt, s, l, m)?;
         }
     }
-    rt.write_all(b"all")?;
-    let d = jacobian::all_lorentzian_dihedrals(s);
-    for k in 0..10usize {
-        print_dihedral(rt, d[k])?;
-    }
-    print_end(rt)
-}
-
-// A row of the Jacobian.
-fn print_derivatives(rt: &impl Print, jac: &[f64; 100], k: usize) -> Result<()>
-    requires { k < 10 }
-{
-    print!(rt; "jacobian {k}")?;
-    for e in 0..10 {
-        print_double(rt, jac[10 * k + e])?;
-    }
-    print_end(rt)
+    print!(rt; "all")?;
+    print_row(
+        rt,
+        jacobian::all_lorentzian_dihedrals(s)
+            .iter()
+            .map(|d| Shown(*d)),
+    )
 }
 
 // The rows of the Jacobian.
 fn print_jacobian(rt: &impl Print, s: &[f64; 10], eps: f64) -> Result<()> {
-    let jac = jacobian::all_lorentzian_dihedrals_jacobian(s, eps);
-    for k in 0..10 {
-        print_derivatives(rt, &jac, k)?;
+    let derivatives = jacobian::all_lorentzian_dihedrals_jacobian(s, eps);
+    for (k, row) in derivatives.chunks_exact(10).enumerate() {
+        print!(rt; "jacobian {k}")?;
+        print_row(rt, row.iter().map(|x| Bits(*x)))?;
     }
     Ok(())
 }
@@ -248,44 +148,43 @@ fn print_simplex(rt: &impl Print, s: &[f64; 10], eps: f64) -> Result<()> {
     print_jacobian(rt, s, eps)
 }
 
-// The dihedral of three cofactors.
+// ---- three cofactors
+
+// Their dihedral.
 fn print_compute(rt: &impl Print, c_lm: f64, c_ll: f64, c_mm: f64) -> Result<()> {
-    rt.write_all(b"compute")?;
-    print_dihedral(rt, lorentzian::compute_dihedral(c_lm, c_ll, c_mm))?;
-    print_end(rt)
+    println!(rt;
+        "compute {}",
+        Shown(lorentzian::compute_dihedral(c_lm, c_ll, c_mm))
+    )
 }
 
 // ---- the text
 
 // The answers to the line that starts at `at`, and where the next line starts.
 fn print_line(rt: &impl Print, text: &[u8], at: usize) -> Result<usize>
-    requires { at < length text.now }
+    requires { (at < length text.now) × (length text.now < 0x1_0001) }
     ensures { IfOk result (λ next. at < next) }
 {
-    if text[at] == b'p' {
-        print_simplex(rt, &lengths_at(text, at), number_at(text, at, 10))?;
-        return Ok(at + SIMPLEX);
+    let given = Given::from(text[at]);
+    match given {
+        Given::Simplex => {
+            let mut s = [0.0; 10];
+            read_list(text, at + 2, &mut s);
+            print_simplex(rt, &s, number_at(text, at, 10))?;
+        }
+        Given::Cofactors => print_compute(
+            rt,
+            number_at(text, at, 0),
+            number_at(text, at, 1),
+            number_at(text, at, 2),
+        )?,
     }
-    print_compute(
-        rt,
-        number_at(text, at, 0),
-        number_at(text, at, 1),
-        number_at(text, at, 2),
-    )?;
-    Ok(at + COFACTORS)
-}
-
-// The answers to each line of the text.
-fn print_lines(rt: &impl Print, text: &[u8]) -> Result<()> {
-    let mut at = 0;
-    while at < text.len() {
-        at = print_line(rt, text, at)?;
-    }
-    Ok(())
+    Ok(at + given.line_len())
 }
 
 fn main(rt: HostRuntime) -> Result<()> {
     let mut text = [0u8; 65536];
-    let n = replay::read_full(rt.stdin(), &mut text)?;
-    print_lines(&rt, &text[..n])
+    let n = read_full(rt.stdin(), &mut text)?;
+    let text = &text[..n];
+    print_lines(n, |at| print_line(&rt, text, at))
 }
