@@ -31,7 +31,7 @@ fn add_marked_pent<'a>(
     sq_lengths: &'a [f64],
     free_edges: &'a [u32],
     fd_eps: f64,
-    mark: bool,
+    mark: u8,
     pent: PentachoronNumber,
     matrix: &mut [f64],
 )
@@ -39,7 +39,7 @@ fn add_marked_pent<'a>(
         × (pent.0 < complex.now.counts.pentachorons) × (length free_edges.now ≤ 81920) × (length free_edges.now * length free_edges.now ≤ length matrix.old) }
     ensures { matrix.new ≡ scatter nan ◌⊕◌ (if_marked mark (second_at (faces_of complex.now) sq_lengths.now free_edges.now fd_eps pent.0)) matrix.old }
 {
-    if !mark {
+    if mark != 1 {
         return;
     }
     let own = pent_edge_indices(complex, incidence, pent);
@@ -54,7 +54,7 @@ fn add_marked_pents<'a>(
     incidence: &Incidence<'a>,
     sq_lengths: &'a [f64],
     free_edges: &'a [u32],
-    marks: &'a [bool],
+    marks: &'a [u8],
     fd_eps: f64,
     matrix: &mut [f64],
 )
@@ -92,7 +92,7 @@ fn add_second_term<'a>(
         × Below free_edges.now complex.now.counts.edges × (length free_edges.now ≤ 81920) × (length free_edges.now * length free_edges.now ≤ length matrix.old) }
     ensures { matrix.new ≡ scatter nan ◌⊕◌ (gather (second_at (faces_of complex.now) sq_lengths.now free_edges.now fd_eps) (local_pents (faces_of complex.now) free_edges.now)) matrix.old }
 {
-    let mut marks = [false; 8192];
+    let mut marks = [0u8; 8192];
     mark_pents(
         complex,
         free_edges,
@@ -112,7 +112,7 @@ fn add_marked_tri<'a>(
     incidence: &Incidence<'a>,
     sq_lengths: &'a [f64],
     free_edges: &'a [u32],
-    mark: bool,
+    mark: u8,
     tri: TriangleNumber,
     diagonal: &mut [f64],
     matrix: &mut [f64],
@@ -122,7 +122,7 @@ fn add_marked_tri<'a>(
     ensures { (diagonal.new ≡ scatter nan ◌⊕◌ (if_marked mark (diagonal_at (faces_of complex.now) sq_lengths.now tri.0)) diagonal.old)
         × (matrix.new ≡ scatter nan before (if_marked mark (first_at (faces_of complex.now) sq_lengths.now free_edges.now tri.0)) matrix.old) }
 {
-    if !mark {
+    if mark != 1 {
         return;
     }
     let own = tri_edge_indices(
@@ -155,7 +155,7 @@ fn add_marked_tris<'a>(
     incidence: &Incidence<'a>,
     sq_lengths: &'a [f64],
     free_edges: &'a [u32],
-    marks: &'a [bool],
+    marks: &'a [u8],
     diagonal: &mut [f64],
     matrix: &mut [f64],
 )
@@ -208,7 +208,7 @@ fn add_first_term<'a>(
     ensures { matrix.new ≡ scatter nan ahead (diagonal_events free_edges.now (diagonal_of (faces_of complex.now) sq_lengths.now free_edges.now))
         (scatter nan before (gather (first_at (faces_of complex.now) sq_lengths.now free_edges.now) (local_triangles (faces_of complex.now) free_edges.now)) matrix.old) }
 {
-    let mut marks = [false; 81920];
+    let mut marks = [0u8; 81920];
     let mut diagonal = [0.0; 81920];
     mark_tris(
         complex,
