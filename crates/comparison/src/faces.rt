@@ -26,16 +26,12 @@ pub fn has_faces(
     let pentachorons = pents.len() / 5;
     let w = face.width();
     let count = face.count();
-    if count * pentachorons < n_faces {
-        return false;
-    }
-    if list.len() < w * n_faces {
+    if count * pentachorons < n_faces || list.len() < w * n_faces {
         return false;
     }
     let mut head = [0u32; 32768];
     let mut n = 0;
-    let mut k = 0;
-    while k < pentachorons {
+    for k in 0..pentachorons {
         let given = face.rows_at(pents, 5 * k);
         let Some(met) = match_rows(
             list,
@@ -52,7 +48,6 @@ pub fn has_faces(
             return false;
         };
         n = met;
-        k += 1;
     }
     n == n_faces
 }

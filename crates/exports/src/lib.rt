@@ -31,7 +31,7 @@ ghost use Rattle.exports.specs.Lattices.{lattice_of, Listed, Filled};
 use boundary::{complex_of, counts_list, counts_of};
 use builder::from_pentachorons;
 use comparison::check_built;
-use complex::{AdjacencyListMut, ListsMut};
+use complex::ListsMut;
 use foliation::{Lattice, foliated_hypercubic};
 use geometry::cofactor_6x6;
 use jacobian::all_lorentzian_dihedrals;
@@ -255,18 +255,12 @@ pub extern "C" fn cjapthumi_from_pentachorons(
         edges,
         triangles,
         tets,
-        tri_to_pents: AdjacencyListMut {
-            items: tri_to_pents_items,
-            starts: tri_to_pents_starts,
-        },
-        edge_to_tris: AdjacencyListMut {
-            items: edge_to_tris_items,
-            starts: edge_to_tris_starts,
-        },
-        edge_to_pents: AdjacencyListMut {
-            items: edge_to_pents_items,
-            starts: edge_to_pents_starts,
-        },
+        tri_to_pents_items,
+        tri_to_pents_starts,
+        edge_to_tris_items,
+        edge_to_tris_starts,
+        edge_to_pents_items,
+        edge_to_pents_starts,
     };
     let built = from_pentachorons(n_vertices, given, &mut lists);
     *counts = counts_list(built.unwrap_or(counts_of(*counts)));

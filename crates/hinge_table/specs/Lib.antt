@@ -1,3 +1,2 @@
 -- The definitions that contracts on tables of records cite.
 pub mod Table
-pub mod Parts

@@ -2,7 +2,8 @@
 // and their records come from the crates below; here records are stored.
 #![tactic(auto)]
 
-ghost use Rattle.std.specs.Prelude.{◌≡◌, ◌≤◌, ◌<◌, ℕ, length, get_or, take};
+ghost use Rattle.std.specs.Prelude.{◌≡◌, ◌≤◌, length};
+ghost use Rattle.lists.specs.Groups.{Below};
 ghost use Rattle.lists.specs.Writes.{writes};
 ghost use Rattle.lists.specs.Rows.{over};
 ghost use Rattle.complex.specs.Lent.{lists_of};
@@ -24,10 +25,10 @@ use retouch::{check_edge, list_touched};
 // ---- all records
 
 // Writes the records of all triangles.
-fn write_all(
-    complex: &Complex<'_>,
-    incidence: &Incidence<'_>,
-    sq_lengths: &[f64],
+fn write_all<'a>(
+    complex: &Complex<'a>,
+    incidence: &Incidence<'a>,
+    sq_lengths: &'a [f64],
     table: &mut [Hinge],
 )
     requires { IsMeasured complex.now incidence.now (length sq_lengths.now) × (complex.now.counts.triangles ≤ length table.old) }
@@ -71,21 +72,19 @@ pub fn lorentzian_deficit_angles(
 
 // ---- the retouch
 
-// Writes the records of the first `count` triangles of a list, each at its own place.
-fn write_records(
-    complex: &Complex<'_>,
-    incidence: &Incidence<'_>,
-    sq_lengths: &[f64],
-    count: usize,
+// Writes the records of the triangles of a list, each at its own place.
+fn write_records<'a>(
+    complex: &Complex<'a>,
+    incidence: &Incidence<'a>,
+    sq_lengths: &'a [f64],
     tris: &[u32],
     table: &mut [Hinge],
 )
     requires { IsMeasured complex.now incidence.now (length sq_lengths.now)
-        × (count ≤ length tris.now) × ((k : ℕ) → k < count → get_or tris.now k 0 < complex.now.counts.triangles) × (complex.now.counts.triangles ≤ length table.old) }
-    ensures { table.new ≡ writes (hinge_in (hinges (faces_of complex.now) sq_lengths.now)) (take count tris.now) table.old }
+        × Below tris.now complex.now.counts.triangles × (complex.now.counts.triangles ≤ length table.old) }
+    ensures { table.new ≡ writes (hinge_in (hinges (faces_of complex.now) sq_lengths.now)) tris.now table.old }
 {
-    for k in 0..count {
-        let tri = tris[k];
+    for &tri in tris {
         table[tri as usize] = hinge_at(complex, incidence, sq_lengths, TriangleNumber(tri));
     }
 }
@@ -124,6 +123,6 @@ pub fn retouch(
     let mut tris = [0u32; 81920];
     let count = list_touched(&built.complex, &built.incidence, edge, &mut tris);
     sq_lengths[edge.0 as usize] = sq_length;
-    write_records(&built.complex, &built.incidence, sq_lengths, count, &tris, table);
+    write_records(&built.complex, &built.incidence, sq_lengths, &tris[..count], table);
     Ok(())
 }

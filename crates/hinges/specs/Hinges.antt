@@ -1,12 +1,11 @@
 -- The hinges of a complex: a deficit and a kind for each triangle, in one pass over the pentachorons as the Rust has it, and each triangle by itself. Definitions only.
 -- Pentachorons, edges and triangles are rising lists of vertices; `ls` has a signed squared length for each edge.
-use Rattle.std.specs.Prelude.{ℕ, zero, suc, ◌+◌, not, length, get_or, replicate, Float, Option, Some, None}
+use Rattle.std.specs.Prelude.{ℕ, zero, suc, not, length, get_or, replicate, Float, Option, Some, None, unwrap_or}
 use mathlib.Core.List.{List, [], map, foldl}
 use Rattle.std.specs.Float.{nan}
 use Rattle.std.specs.Float.Ieee.{neg}
 use Rattle.floats.specs.Ops as Ops
 use Rattle.floats.specs.Ops.{◌⊕◌, ◌⊖◌, ◌⊗◌, dbl, two}
-use Rattle.floats.specs.Algebra.{doubles}
 use Rattle.lists.specs.Lists.{keep, gather, upto, combos, among}
 use Rattle.lists.specs.Keys.{find}
 use Rattle.lists.specs.Loops.{scatter}
@@ -15,12 +14,10 @@ use Rattle.complex.specs.declared.Complex.{Complex}
 use Rattle.complex.specs.Complex.{edges, triangles, row_numbers}
 use Rattle.complex.specs.Check.{pents_in, edges_in, triangles_in}
 use Rattle.incidence.specs.Incidence.{opposite_indices}
-use Rattle.geometry.specs.Determinant.{cofactor}
-use Rattle.geometry.specs.CayleyMenger.{cm}
 use Rattle.lorentzian.specs.declared.dihedral.HingeType.{HingeType}
 use Rattle.lorentzian.specs.declared.dihedral.HingeType.TheVariants.{Spacelike, Timelike}
 use Rattle.lorentzian.specs.declared.dihedral.Dihedral.{Dihedral}
-use Rattle.lorentzian.specs.Dihedral.{kind_number, kind_of, value_of, compute_dihedral}
+use Rattle.lorentzian.specs.Dihedral.{kind_number, kind_of, value_of, compute_dihedral, dihedral_by}
 use Rattle.hinges.specs.declared.hinge.Hinge.{Hinge}
 
 -- ---- the lists that hinges are read from
@@ -56,11 +53,6 @@ kind_in zero = Some Spacelike
 kind_in (suc zero) = Some Timelike
 kind_in (suc (suc n)) = None
 
--- the kind, or another where there is none
-abbrev pub known_or : Option HingeType → HingeType → HingeType
-known_or (Some k) other = k
-known_or None other = other
-
 -- ---- a hinge
 
 -- the Rust's PI
@@ -87,7 +79,7 @@ first None d = Some (kind_of d)
 
 -- the hinge of a first kind and a sum; Spacelike where there was no dihedral
 unfoldable pub closed : Option HingeType → Float → Hinge
-closed k sum = hinge_of (known_or k Spacelike) sum
+closed k sum = hinge_of (unwrap_or k Spacelike) sum
 
 -- the hinge that has these dihedrals, in this order
 unfoldable pub hinge : List Dihedral → Hinge
@@ -104,10 +96,8 @@ unfoldable pub pent_lengths : FaceLists → List Float → List ℕ → List Flo
 pent_lengths F ls p = lengths_at ls (row_numbers F.edges 2 p)
 
 -- the dihedral at the triangle opposite the edge of the local indices l and m, by the rule on the product
-unfoldable pub dihedral_at : List Float → ℕ → ℕ → Dihedral
-dihedral_at s l m =
-    let C = cofactor doubles (cm doubles s) in
-    compute_dihedral (C (l + 1) (m + 1)) (C (l + 1) (l + 1)) (C (m + 1) (m + 1))
+abbrev pub dihedral_at : List Float → ℕ → ℕ → Dihedral
+dihedral_at = dihedral_by compute_dihedral
 
 -- the same by the list of both local indices
 abbrev pub dihedral_of : List Float → List ℕ → Dihedral

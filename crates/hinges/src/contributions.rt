@@ -12,6 +12,7 @@ use incidence::TriangleEdges;
 use lorentzian::{triangle_area_sq_grad, triangle_area_sq_lorentzian};
 
 // The sign of a squared area, over twice the area.
+#[tactic(auto, unfolding(crate::specs::Action::factor_of))]
 pub fn factor_of(area_sq: f64, area: f64) -> f64
     ensures { result ≡ factor_of area_sq area }
 {
@@ -24,12 +25,7 @@ fn contribution_of(s: [f64; 3], area: f64, deficit: f64) -> [f64; 3]
     ensures { result ≡ contribution_of s area deficit }
 {
     let factor = factor_of(triangle_area_sq_lorentzian(s[0], s[1], s[2]), area);
-    let grad = triangle_area_sq_grad(s[0], s[1], s[2]);
-    [
-        factor * grad[0] * deficit,
-        factor * grad[1] * deficit,
-        factor * grad[2] * deficit,
-    ]
+    triangle_area_sq_grad(s[0], s[1], s[2]).map(|entry| factor * entry * deficit)
 }
 
 // The entries of a triangle's edges with what the triangle adds; an area below 1e-30 is skipped.

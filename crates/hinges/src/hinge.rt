@@ -1,19 +1,20 @@
 // The record of a hinge, and kinds as the bytes of plain lists.
 ghost use Rattle.std.specs.Prelude.{◌≡◌};
-ghost use Rattle.hinges.specs.Hinges.{byte_of, kind_in, first, hinge_of, closed};
+ghost use Rattle.hinges.specs.Hinges.{byte_of, kind_in, first, closed};
 
 use lorentzian::{Dihedral, HingeType};
 
 const PI: f64 = 3.141592653589793;
 
 // The deficit of a triangle, and its kind.
-#[derive(Clone, Copy)]
+#[derive(Clone, Copy, Debug, PartialEq)]
 pub struct Hinge {
     pub deficit: f64,
     pub kind: HingeType,
 }
 
-// The byte of a kind in a lent list of kinds: 0 Spacelike, 1 Timelike, 2 where there is none yet. Such a list is written by this alone.
+// The byte of a kind in a list of kinds: 0 Spacelike, 1 Timelike, 2 where there is none yet. Such a list is written by this alone.
+// Bytes and no options: the list is lent over the C interface.
 pub fn byte_of(kind: Option<HingeType>) -> u8
     ensures { result ≡ byte_of kind }
 {
@@ -35,31 +36,22 @@ pub fn kind_in(byte: u8) -> Option<HingeType>
 }
 
 // The kind of a hinge after one dihedral more: the first one decides.
+#[tactic(auto, unfolding(crate::specs::Hinges::first))]
 pub fn first(kind: Option<HingeType>, dihedral: Dihedral) -> Option<HingeType>
     ensures { result ≡ first kind dihedral }
 {
     kind.or(Some(dihedral.kind()))
 }
 
-// The hinge of a kind with the sum of its dihedrals.
-fn hinge_of(kind: HingeType, sum: f64) -> Hinge
-    ensures { result ≡ hinge_of kind sum }
-{
-    match kind {
-        HingeType::Spacelike => Hinge {
-            deficit: 2.0 * PI - sum,
-            kind: HingeType::Spacelike,
-        },
-        HingeType::Timelike => Hinge {
-            deficit: -sum,
-            kind: HingeType::Timelike,
-        },
-    }
-}
-
 // The hinge of a first kind and a sum; Spacelike where there was no dihedral.
+#[tactic(auto, unfolding(crate::specs::Hinges::closed))]
 pub fn closed(kind: Option<HingeType>, sum: f64) -> Hinge
     ensures { result ≡ closed kind sum }
 {
-    hinge_of(kind.unwrap_or(HingeType::Spacelike), sum)
+    let kind = kind.unwrap_or(HingeType::Spacelike);
+    let deficit = match kind {
+        HingeType::Spacelike => 2.0 * PI - sum,
+        HingeType::Timelike => -sum,
+    };
+    Hinge { deficit, kind }
 }

@@ -5,14 +5,14 @@
 
 mod area;
 mod contributions;
-mod dihedrals;
 mod hinge;
+mod pentachoron;
 mod triangle;
 mod zeros;
 
 pub use area::{abs_area, tri_sq_lengths};
 pub use contributions::{add_contributions, factor_of};
-pub use dihedrals::pent_sq_lengths;
 pub use hinge::{Hinge, byte_of, closed, first, kind_in};
+pub use pentachoron::pent_sq_lengths;
 pub use triangle::hinge_at;
 pub use zeros::zero_all;

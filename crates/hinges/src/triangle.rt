@@ -5,13 +5,13 @@ ghost use Rattle.complex.specs.Lent.{pents_of, triangles_of};
 ghost use Rattle.hinges.specs.Hinges.{faces_of, hinges, hinge_in, dihedral_in};
 ghost use Rattle.hinges.specs.Parts.{IsMeasured};
 
-use crate::dihedrals::{dihedral_at, pent_sq_lengths};
 use crate::hinge::{Hinge, closed, first};
+use crate::pentachoron::pent_sq_lengths;
 use complex::{Complex, Incidence};
 use incidence::{
     PentachoronNumber, TriangleNumber, opposite_local_indices, pent_edge_indices, pents_of_triangle,
 };
-use lorentzian::Dihedral;
+use lorentzian::{Dihedral, compute_dihedral, dihedral_at};
 
 // The dihedral of a triangle in a pentachoron in which it lies.
 fn dihedral_in<'a>(
@@ -28,9 +28,13 @@ fn dihedral_in<'a>(
 {
     let own = pent_edge_indices(complex, incidence, pent);
     let s = pent_sq_lengths(own, sq_lengths);
+    let at = opposite_local_indices(complex, incidence, pent, tri);
+    // The rule in a closure: another crate's function gets no proof here where its name is passed.
     dihedral_at(
         &s,
-        opposite_local_indices(complex, incidence, pent, tri),
+        at.l,
+        at.m,
+        |c_lm, c_ll, c_mm| compute_dihedral(c_lm, c_ll, c_mm),
     )
 }
 
@@ -45,24 +49,12 @@ pub fn hinge_at<'a>(
         × (tri.0 < complex.now.counts.triangles) }
     ensures { result ≡ hinge_in (hinges (faces_of complex.now) sq_lengths.now) tri.0 }
 {
-    let holders = pents_of_triangle(
-        complex,
-        tri,
-    );
     let mut sum = 0.0;
     let mut kind = None;
-    let mut k = 0;
-    while k < holders.len() {
-        let dihedral = dihedral_in(
-            complex,
-            incidence,
-            sq_lengths,
-            PentachoronNumber(holders[k]),
-            tri,
-        );
+    for &pent in pents_of_triangle(complex, tri) {
+        let dihedral = dihedral_in(complex, incidence, sq_lengths, PentachoronNumber(pent), tri);
         sum += dihedral.value();
         kind = first(kind, dihedral);
-        k += 1;
     }
     closed(kind, sum)
 }

@@ -8,9 +8,5 @@ pub fn zero_all(n: usize, list: &mut [f64])
     requires { n ≤ length list.old }
     ensures { list.new ≡ over (replicate n zero) list.old }
 {
-    let mut k = 0;
-    while k < n {
-        list[k] = 0.0;
-        k += 1;
-    }
+    list[..n].fill(0.0);
 }

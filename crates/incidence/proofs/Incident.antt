@@ -1,25 +1,32 @@
 -- Faces that lie in each other, by their numbers: parts of the adjacency lists, rows of ten numbers, and the tables of places. Assumes nothing.
+use Rattle.std.specs.Prelude.{Option, Some, None, ◌≢◌}
+use Rattle.std.specs.Option.{IsSome, MatchOption}
+use Rattle.std.specs.List.{AllWithin, HoldsAt}
 use Prim.Native.Nat.{ℕ, ◌+◌, ◌*◌, ◌/◌, ◌%◌, ◌≤◌, ◌<◌}
 use mathlib.Core.Path.{◌≡◌, refl, sym, ap, ◌∙◌, subst}
-use mathlib.Core.Logic.{⊎_elim}
 use mathlib.Core.Bool.{true}
 use mathlib.Core.List.{List, [], ◌∷◌, map, Memᴰ}
 use native.Mathlib.Omega.{arith}
-use lib.ListN.{length, get_or, take, drop, length-map, get_or-replicate}
+use lib.ListN.{length, get_or, take, drop, length-map}
 use borrow.Author.Tests.{eq-eqb, ne_eqb}
 use Rattle.lists.specs.Lists.{keep, gather, upto, combos, among, Within, Rising}
 use Rattle.lists.specs.Keys.{find}
 use Rattle.lists.specs.Rows.{flat, rows, Wide, starts, begins}
-use Rattle.lists.proofs.Tests.{said, passes, and-true, lt-or-ge}
+use Rattle.lists.proofs.Tests.{said, passes, and-true}
 use Rattle.lists.proofs.Elements.{get_or-mem, mem-get_or, get_or-map, length-gather, map-gather, among-says}
 use Rattle.lists.proofs.Keys.{find-get}
 use Rattle.lists.proofs.Choices.{combos-within, combos-rising, combos_has}
 use Rattle.lists.proofs.Rows.{rows_at, row_below, rows-begins, rows-wide, length-rows, begins-says, begins-long, flat_map, part, begun-fits, begun-part}
+use Rattle.complex.specs.declared.AdjacencyList.{AdjacencyList}
+use Rattle.complex.specs.declared.Complex.{Complex}
+use Rattle.complex.specs.declared.Incidence.{Incidence}
 use Rattle.complex.specs.declared.numbering.Face.TheVariants.{Edge, Triangle}
 use Rattle.complex.specs.Complex.{edges, triangles, met_faces, faces_of, numbers_of, holding, row_numbers}
 use Rattle.complex.specs.Check.{holds}
+use Rattle.complex.specs.Lent.{pents_of, edges_of, triangles_of, IsHolding}
 use Rattle.complex.specs.Parts.{edge_places, edge_at}
-use Rattle.incidence.specs.Incidence.{Tens, Simplices, Lie, opposite_indices}
+use Rattle.incidence.specs.declared.Opposite.{Opposite}
+use Rattle.incidence.specs.Incidence.{HasEdgeNumbers, HasTriangleNumbers, Simplices, Lie, index_list, opposite_indices}
 use Rattle.complex.proofs.Meetings.{count-faces}
 use Rattle.complex.proofs.TriangleEdges.{place-below}
 use Rattle.complex.proofs.Lying.{Sorted, faces-distinct, faces-only, face-rising, mem-holding, holding-mem}
@@ -27,36 +34,33 @@ use Rattle.complex.proofs.FaceNumbers.{three-edges, one-edge}
 
 -- ---- parts of items
 
--- the lists of the rows in which each of n keys lies
-module _ (rs : List (List ℕ)) (w n : ℕ) (list items ss : List ℕ) (ok : holds rs (rows w n list) items ss ≡ true) (i : ℕ) (h : i < n) where
+-- the lists of the rows in which each key lies
+module _ (rs keys : List (List ℕ)) (a : AdjacencyList) (ok : IsHolding rs keys a) (i : ℕ) (h : i < length keys) where
   gs : List (List ℕ)
-  gs = map (holding rs) (rows w n list)
-
-  among-rows : i < length (rows w n list)
-  among-rows = rw (length-rows w n list) h
+  gs = map (holding rs) keys
 
   among_gs : i < length gs
   unfolding gs
-  among_gs = rw (length-map (rows w n list) (holding rs)) among-rows
+  among_gs = rw (length-map keys (holding rs)) h
 
-  both : (begins (flat gs) items ≡ true) × (begins (starts gs) ss ≡ true)
+  both : (begins (flat gs) a.items.now ≡ true) × (begins (starts gs) a.starts.now ≡ true)
   unfolding holds gs
-  both = and-true (begins (flat gs) items) (begins (starts gs) ss) ok
+  both = and-true (begins (flat gs) a.items.now) (begins (starts gs) a.starts.now) ok
 
-  items_begin : take (length (flat gs)) items ≡ flat gs
-  items_begin = said (begins-says (flat gs) items) both.0
+  items_begin : take (length (flat gs)) a.items.now ≡ flat gs
+  items_begin = said (begins-says (flat gs) a.items.now) both.0
 
-  starts_begin : take (length (starts gs)) ss ≡ starts gs
-  starts_begin = said (begins-says (starts gs) ss) both.1
+  starts_begin : take (length (starts gs)) a.starts.now ≡ starts gs
+  starts_begin = said (begins-says (starts gs) a.starts.now) both.1
 
   -- key i's items lie within the list
-  pub holders-fit : (i + 1 < length ss) × (get_or ss i 0 ≤ get_or ss (i + 1) 0) × (get_or ss (i + 1) 0 ≤ length items)
-  holders-fit = begun-fits gs items ss items_begin starts_begin i among_gs
+  pub holders-fit : (i + 1 < length a.starts.now) × (get_or a.starts.now i 0 ≤ get_or a.starts.now (i + 1) 0) × (get_or a.starts.now (i + 1) 0 ≤ length a.items.now)
+  holders-fit = begun-fits gs a.items.now a.starts.now items_begin starts_begin i among_gs
 
   -- and are the numbers of the rows in which it lies
-  pub holders-are : part ss items i ≡ holding rs (get_or (rows w n list) i [])
+  pub holders-are : part a.starts.now a.items.now i ≡ holding rs (get_or keys i [])
   unfolding gs
-  holders-are = begun-part gs items ss items_begin starts_begin i among_gs ∙ get_or-map (holding rs) (rows w n list) i [] [] among-rows
+  holders-are = begun-part gs a.items.now a.starts.now items_begin starts_begin i among_gs ∙ get_or-map (holding rs) keys i [] [] h
 
 -- ---- rows of ten
 
@@ -79,37 +83,38 @@ row_in w f ps numbers wide ok i h =
     wide-map : Wide w (map f ps)
     wide-map x m = let q : (p : List ℕ) × Memᴰ p ps × (f p ≡ x) = mathlib.Core.List.Memᴰ.of_map f ps m in ap length (sym q.2) ∙ wide q.0 q.1
 
-module _ (keys : List (List ℕ)) (P : ℕ) (pents numbers : List ℕ) (i : ℕ) (h : i < P) where
-  inside : i < length (rows 5 P pents)
-  inside = rw (length-rows 5 P pents) h
+module _ (x : Complex) (n : Incidence) (p : ℕ) (h : p < x.counts.pentachorons) where
+  inside : p < length (pents_of x)
+  inside = rw (length-rows 5 x.counts.pentachorons x.pents.now) h
 
-  -- the ten edge numbers of pentachoron i
-  pub ten-edges : Tens keys 2 P pents numbers → (10 * i + 10 ≤ length numbers) × (take 10 (drop (10 * i) numbers) ≡ row_numbers keys 2 (get_or (rows 5 P pents) i []))
-  ten-edges ok = row_in 10 (row_numbers keys 2) (rows 5 P pents) numbers (λ p m. (ten_faces keys p (rows-wide 5 P pents ok.room p m)).0) ok.noted i inside
+  -- the ten edge numbers of pentachoron p
+  pub ten-edges : HasEdgeNumbers x n → (10 * p + 10 ≤ length n.pent_edges.now) × (take 10 (drop (10 * p) n.pent_edges.now) ≡ row_numbers (edges_of x) 2 (get_or (pents_of x) p []))
+  ten-edges ok = row_in 10 (row_numbers (edges_of x) 2) (pents_of x) n.pent_edges.now (λ r m. (ten_faces (edges_of x) r (rows-wide 5 x.counts.pentachorons x.pents.now ok.room r m)).0) ok.noted p inside
 
   -- its ten triangle numbers
-  pub ten-triangles : Tens keys 3 P pents numbers → (10 * i + 10 ≤ length numbers) × (take 10 (drop (10 * i) numbers) ≡ row_numbers keys 3 (get_or (rows 5 P pents) i []))
-  ten-triangles ok = row_in 10 (row_numbers keys 3) (rows 5 P pents) numbers (λ p m. (ten_faces keys p (rows-wide 5 P pents ok.room p m)).1) ok.noted i inside
+  pub ten-triangles : HasTriangleNumbers x n → (10 * p + 10 ≤ length n.pent_tris.now) × (take 10 (drop (10 * p) n.pent_tris.now) ≡ row_numbers (triangles_of x) 3 (get_or (pents_of x) p []))
+  ten-triangles ok = row_in 10 (row_numbers (triangles_of x) 3) (pents_of x) n.pent_tris.now (λ r m. (ten_faces (triangles_of x) r (rows-wide 5 x.counts.pentachorons x.pents.now ok.room r m)).1) ok.noted p inside
 
 -- ---- a triangle in a pentachoron
 
--- a number that stands at w or later is sought on from q
-pub sought-next : (l : List ℕ) (n q w : ℕ) → q ≤ w → get_or l w 0 ≡ n → (get_or l q 0 ≡ n → ⊥) → q < w
-sought-next l n q w h e f = ⊎_elim (λ (k : q < w). k) (λ (k : w ≤ q). let z : q ≡ w = omega arith in absurd (f (ap (λ (j : ℕ). get_or l j 0) z ∙ e))) (lt-or-ge q w)
+-- a number that is among others has a place
+pub sought-found : (n : ℕ) (l : List ℕ) (r : Option ℕ) → among n l ≡ true → MatchOption r (AllWithin (λ v. v ≢ n) l 0 (length l)) (λ i. (i < length l) × HoldsAt (λ v. v ≡ n) l i × AllWithin (λ v. v ≢ n) l 0 i) → IsSome r
+sought-found n l (Some i) m h = refl
+sought-found n l None m h = let w = mem-get_or 0 (said (among-says n l) m) in absurd (h w.0 0 (omega arith) w.1 w.2)
 
 -- a triangle lies in the first pentachoron of its list
-pub first_holder : (P T : ℕ) (pents triangles : List ℕ) → Lie (rows 5 P pents) (rows 3 T triangles) → (t : ℕ) → t < T → (hs : List ℕ) → hs ≡ holding (rows 5 P pents) (get_or (rows 3 T triangles) t [])
-    → (0 < length hs) × (get_or hs 0 0 < P) × Within (get_or (rows 3 T triangles) t []) (get_or (rows 5 P pents) (get_or hs 0 0) [])
-first_holder P T pents triangles lie t h hs e =
-    let ps = rows 5 P pents in
-    let s = get_or (rows 3 T triangles) t [] in
-    let l : (p : List ℕ) × Memᴰ p ps × Within s p = lie s (get_or-mem (rows 3 T triangles) t [] (rw (length-rows 3 T triangles) h)) in
+pub first_holder : (x : Complex) → Lie (pents_of x) (triangles_of x) → (t : ℕ) → t < x.counts.triangles → (hs : List ℕ) → hs ≡ holding (pents_of x) (get_or (triangles_of x) t [])
+    → (0 < length hs) × (get_or hs 0 0 < x.counts.pentachorons) × Within (get_or (triangles_of x) t []) (get_or (pents_of x) (get_or hs 0 0) [])
+first_holder x lie t h hs e =
+    let ps = pents_of x in
+    let s = get_or (triangles_of x) t [] in
+    let l : (p : List ℕ) × Memᴰ p ps × Within s p = lie s (get_or-mem (triangles_of x) t [] (rw (length-rows 3 x.counts.triangles x.triangles.now) h)) in
     let i : (i : ℕ) × (i < length ps) × (get_or ps i [] ≡ l.0) = mem-get_or [] l.1 in
     let m : Memᴰ i.0 (holding ps s) = holding-mem ps s i.1 (subst (Within s) (sym i.2) l.2) in
     let k : (j : ℕ) × (j < length (holding ps s)) × (get_or (holding ps s) j 0 ≡ i.0) = mem-get_or 0 m in
     let pos : 0 < length (holding ps s) = omega (arith, k.1) in
     let f = mem-holding ps s (get_or-mem (holding ps s) 0 0 pos) in
-    rw e (pos, omega (arith, f.0, length-rows 5 P pents), f.1)
+    rw e (pos, omega (arith, f.0, length-rows 5 x.counts.pentachorons x.pents.now), f.1)
 
 -- ---- the tables of places
 
@@ -120,29 +125,23 @@ three-of (a ∷ []) h = absurd (omega arith)
 three-of (a ∷ b ∷ []) h = absurd (omega arith)
 three-of (a ∷ b ∷ c ∷ d ∷ l) h = absurd (omega arith)
 
-two-of : (l : List ℕ) → length l ≡ 2 → l ≡ get_or l 0 0 ∷ get_or l 1 0 ∷ []
-two-of (a ∷ b ∷ []) h = refl
-two-of [] h = absurd (omega arith)
-two-of (a ∷ []) h = absurd (omega arith)
-two-of (a ∷ b ∷ c ∷ l) h = absurd (omega arith)
-
 -- the local indices of the two vertices that are not in it, for each of the ten triangles of a pentachoron
-abbrev opposites : List (List ℕ)
+abbrev opposites : List Opposite
 opposites =
-    (3 ∷ 4 ∷ [])
-    ∷ (2 ∷ 4 ∷ [])
-    ∷ (2 ∷ 3 ∷ [])
-    ∷ (1 ∷ 4 ∷ [])
-    ∷ (1 ∷ 3 ∷ [])
-    ∷ (1 ∷ 2 ∷ [])
-    ∷ (0 ∷ 4 ∷ [])
-    ∷ (0 ∷ 3 ∷ [])
-    ∷ (0 ∷ 2 ∷ [])
-    ∷ (0 ∷ 1 ∷ [])
+    record { l = 3; m = 4 }
+    ∷ record { l = 2; m = 4 }
+    ∷ record { l = 2; m = 3 }
+    ∷ record { l = 1; m = 4 }
+    ∷ record { l = 1; m = 3 }
+    ∷ record { l = 1; m = 2 }
+    ∷ record { l = 0; m = 4 }
+    ∷ record { l = 0; m = 3 }
+    ∷ record { l = 0; m = 2 }
+    ∷ record { l = 0; m = 1 }
     ∷ []
 
 -- the table of opposite vertices is right
-five-opposites : (a b c d e : ℕ) → a < b → b < c → c < d → d < e → map (opposite_indices (a ∷ b ∷ c ∷ d ∷ e ∷ [])) (combos (a ∷ b ∷ c ∷ d ∷ e ∷ []) 3) ≡ opposites
+five-opposites : (a b c d e : ℕ) → a < b → b < c → c < d → d < e → map (opposite_indices (a ∷ b ∷ c ∷ d ∷ e ∷ [])) (combos (a ∷ b ∷ c ∷ d ∷ e ∷ []) 3) ≡ map index_list opposites
 unfolding combos opposite_indices keep upto among
 five-opposites a b c d e ab bc cd de =
     rw (
@@ -174,7 +173,7 @@ five-opposites a b c d e ab bc cd de =
     )
     refl
 
-all-opposites : (p : List ℕ) → length p ≡ 5 → Rising p → map (opposite_indices p) (combos p 3) ≡ opposites
+all-opposites : (p : List ℕ) → length p ≡ 5 → Rising p → map (opposite_indices p) (combos p 3) ≡ map index_list opposites
 all-opposites (a ∷ b ∷ c ∷ d ∷ e ∷ []) h r =
     five-opposites a b c d e (r.0 b (mathlib.Core.List.Memᴰ.head refl)) (r.1.0 c (mathlib.Core.List.Memᴰ.head refl)) (r.1.1.0 d (mathlib.Core.List.Memᴰ.head refl)) (r.1.1.1.0 e (mathlib.Core.List.Memᴰ.head refl))
 all-opposites [] h r = absurd (omega arith)
@@ -184,35 +183,35 @@ all-opposites (a ∷ b ∷ c ∷ []) h r = absurd (omega arith)
 all-opposites (a ∷ b ∷ c ∷ d ∷ []) h r = absurd (omega arith)
 all-opposites (a ∷ b ∷ c ∷ d ∷ e ∷ f ∷ p) h r = absurd (omega arith)
 
--- pentachoron p and triangle t of P and T, with the ten triangle numbers of p
-module _ (P T : ℕ) (pents triangles : List ℕ) (ok : Simplices (rows 5 P pents) (rows 3 T triangles)) (room : 5 * P ≤ length pents) (p t : ℕ) (in-pents : p < P) (in-triangles : t < T) (tris : List ℕ) (own : tris ≡ row_numbers (rows 3 T triangles) 3 (get_or (rows 5 P pents) p [])) where
+-- pentachoron p and triangle t of a complex, with the ten triangle numbers of p
+module _ (x : Complex) (ok : Simplices (pents_of x) (triangles_of x)) (room : 5 * x.counts.pentachorons ≤ length x.pents.now) (p t : ℕ) (in-pents : p < x.counts.pentachorons) (in-triangles : t < x.counts.triangles) (tris : List ℕ) (own : tris ≡ row_numbers (triangles_of x) 3 (get_or (pents_of x) p [])) where
   pent : List ℕ
-  pent = get_or (rows 5 P pents) p []
+  pent = get_or (pents_of x) p []
 
   ts : List (List ℕ)
-  ts = rows 3 T triangles
+  ts = triangles_of x
 
-  pent-mem : Memᴰ pent (rows 5 P pents)
+  pent-mem : Memᴰ pent (pents_of x)
   unfolding pent
-  pent-mem = get_or-mem (rows 5 P pents) p [] (rw (length-rows 5 P pents) in-pents)
+  pent-mem = get_or-mem (pents_of x) p [] (rw (length-rows 5 x.counts.pentachorons x.pents.now) in-pents)
 
   five : length pent ≡ 5
-  five = rows-wide 5 P pents room pent pent-mem
+  five = rows-wide 5 x.counts.pentachorons x.pents.now room pent pent-mem
 
   up : Rising pent
   up = ok.pentachoron pent pent-mem
 
   known : t < length ts
   unfolding ts
-  known = rw (length-rows 3 T triangles) in-triangles
+  known = rw (length-rows 3 x.counts.triangles x.triangles.now) in-triangles
 
   -- p has ten edge numbers
-  pub ten-own : (es : List (List ℕ)) (ten : List ℕ) → ten ≡ row_numbers es 2 (get_or (rows 5 P pents) p []) → length ten ≡ 10
+  pub ten-own : (es : List (List ℕ)) (ten : List ℕ) → ten ≡ row_numbers es 2 (get_or (pents_of x) p []) → length ten ≡ 10
   unfolding pent
   ten-own es ten e = ap length e ∙ (ten_faces es pent five).0
 
   -- t is among the triangle numbers where it lies in p
-  pub own-triangle : Within (get_or (rows 3 T triangles) t []) (get_or (rows 5 P pents) p []) → among t tris ≡ true
+  pub own-triangle : Within (get_or (triangles_of x) t []) (get_or (pents_of x) p []) → among t tris ≡ true
   unfolding pent ts
   own-triangle w =
       let s = get_or ts t [] in
@@ -254,7 +253,7 @@ module _ (P T : ℕ) (pents triangles : List ℕ) (ok : Simplices (rows 5 P pent
         ∙ ap (λ (s : List ℕ). get_or (row_numbers es 2 s) i 0) q_th
 
     -- its three edges
-    pub edges-own : (es : List (List ℕ)) (ten : List ℕ) → ten ≡ row_numbers es 2 (get_or (rows 5 P pents) p []) → edge_at ten q 0 ∷ edge_at ten q 1 ∷ edge_at ten q 2 ∷ [] ≡ row_numbers es 2 (get_or (rows 3 T triangles) t [])
+    pub edges-own : (es : List (List ℕ)) (ten : List ℕ) → ten ≡ row_numbers es 2 (get_or (pents_of x) p []) → edge_at ten q 0 ∷ edge_at ten q 1 ∷ edge_at ten q 2 ∷ [] ≡ row_numbers es 2 (get_or (triangles_of x) t [])
     unfolding pent ts
     edges-own es ten e =
         let s = get_or ts t [] in
@@ -262,11 +261,11 @@ module _ (P T : ℕ) (pents triangles : List ℕ) (ok : Simplices (rows 5 P pent
         rw (e, edge-own es 0 (omega arith), edge-own es 1 (omega arith), edge-own es 2 (omega arith)) (sym (three-of (row_numbers es 2 s) n))
 
     -- the vertices of p that are not in it
-    pub opposite-own : get_or (get_or opposites q []) 0 0 ∷ get_or (get_or opposites q []) 1 0 ∷ [] ≡ opposite_indices (get_or (rows 5 P pents) p []) (get_or (rows 3 T triangles) t [])
+    pub opposite-own : index_list (get_or opposites q (record { l = 0; m = 0 })) ≡ opposite_indices (get_or (pents_of x) p []) (get_or (triangles_of x) t [])
     unfolding pent ts
     opposite-own =
-        sym (two-of (get_or opposites q []) (sym (get_or-map length opposites q [] 0 below-ten) ∙ get_or-replicate 10 q 2 0 below-ten))
-        ∙ ap (λ (l : List (List ℕ)). get_or l q []) (sym (all-opposites pent five up)) ∙ get_or-map (opposite_indices pent) (combos pent 3) q [] [] among-ten ∙ ap (opposite_indices pent) q_th
+        sym (get_or-map index_list opposites q (record { l = 0; m = 0 }) [] below-ten) ∙ ap (λ (l : List (List ℕ)). get_or l q []) (sym (all-opposites pent five up)) ∙ get_or-map (opposite_indices pent) (combos pent 3) q [] [] among-ten
+        ∙ ap (opposite_indices pent) q_th
 
 -- ---- the faces of sorted pentachorons
 

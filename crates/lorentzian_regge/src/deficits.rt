@@ -6,8 +6,7 @@ ghost use Rattle.hinges.specs.Hinges.{faces_of, hinges, hinge_in};
 ghost use Rattle.calls.specs.Calls.{lengths_check_of, built_check_of, room_check_of, triangle_check_of, short_table};
 ghost use Rattle.lorentzian_regge.specs.Answers.{Tabled};
 
-use calls::{BuiltComplex, check_lengths, check_room, check_triangle};
-use comparison::is_built_noting;
+use calls::{BuiltComplex, check_lengths, check_noting, check_table, check_triangle};
 use complex::{Complex, Incidence};
 use hinges::{Hinge, hinge_at};
 use incidence::TriangleNumber;
@@ -29,7 +28,7 @@ pub fn lorentzian_deficit_angles_built(
 {
     let counts = built.complex.counts;
     check_lengths(counts, sq_lengths.len())?;
-    check_room(deficits.len() < counts.triangles || kinds.len() < counts.triangles)?;
+    check_table(counts, deficits.len(), kinds.len())?;
     write_table(&built.complex, &built.incidence, sq_lengths, deficits, kinds);
     Ok(())
 }
@@ -48,9 +47,7 @@ pub fn lorentzian_deficit_angles(
 {
     let mut pent_edges = [0u32; 81920];
     let mut pent_tris = [0u32; 81920];
-    if !is_built_noting(complex, &mut pent_edges, &mut pent_tris) {
-        return Err(Refusal::NotBuilt);
-    }
+    check_noting(complex, &mut pent_edges, &mut pent_tris)?;
     let incidence = Incidence {
         pent_edges: &pent_edges,
         pent_tris: &pent_tris,
@@ -91,9 +88,7 @@ pub fn lorentzian_deficit_angle(
 {
     let mut pent_edges = [0u32; 81920];
     let mut pent_tris = [0u32; 81920];
-    if !is_built_noting(complex, &mut pent_edges, &mut pent_tris) {
-        return Err(Refusal::NotBuilt);
-    }
+    check_noting(complex, &mut pent_edges, &mut pent_tris)?;
     let incidence = Incidence {
         pent_edges: &pent_edges,
         pent_tris: &pent_tris,

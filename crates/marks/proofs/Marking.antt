@@ -1,4 +1,6 @@
 -- Marks: which numbers a list of marks has, and loops over them. Assumes nothing.
+use Rattle.std.specs.List.{count_by}
+use Rattle.std.proofs.lemmas.List.Sums.{count_by_more_yes, count_by_more_no}
 use Prim.Native.Nat.{ℕ, zero, suc, ◌+◌, ◌-◌, ◌≤◌, ◌<◌}
 use mathlib.Core.Bool.{Bool, true, false, true≢false, cond, ◌||◌}
 use mathlib.Core.List.Memᴰ
@@ -8,7 +10,6 @@ use mathlib.Core.Path.{◌≡◌, refl, sym, ap, ◌∙◌, subst}
 use native.Mathlib.Nat.{add-zero}
 use native.Mathlib.Numerals.{add-one}
 use native.Mathlib.Omega.{arith}
-use lib.Dec.{eqb}
 use lib.ListN.{length, get_or, set, take, replicate, drop, length-set, length-replicate, get_or-replicate, length-append, get_or-append}
 use lib.Seq.{get_or-set_same, get_or-set_other, lt-length-set, take-suc}
 use Rattle.lists.specs.Lists.{keep, gather, upto, among, Once}
@@ -34,58 +35,58 @@ scratch-room m large x xs e n h = omega (arith, ap length e, length-replicate m 
 -- ---- marks
 
 -- marking keeps the length
-pub length_marked : (xs ms : List ℕ) → length (marked xs ms) ≡ length ms
+pub length_marked : (xs : List ℕ) (ms : List Bool) → length (marked xs ms) ≡ length ms
 unfolding marked
 length_marked [] ms = refl
-length_marked (x ∷ xs) ms = length_marked xs (set ms x 1) ∙ length-set ms x 1
+length_marked (x ∷ xs) ms = length_marked xs (set ms x true) ∙ length-set ms x true
 
 -- what stands at a place after marking
-pub marked-at : (xs ms : List ℕ) (t : ℕ) → t < length ms → get_or (marked xs ms) t 0 ≡ cond (among t xs) 1 (get_or ms t 0)
+pub marked-at : (xs : List ℕ) (ms : List Bool) (t : ℕ) → t < length ms → get_or (marked xs ms) t false ≡ (among t xs || get_or ms t false)
 unfolding marked among
 marked-at [] ms t h = refl
-marked-at (x ∷ xs) ms t h = marked-at xs (set ms x 1) t (lt-length-set ms x 1 h) ∙ go (eqb-says t x) (among t xs)
+marked-at (x ∷ xs) ms t h = marked-at xs (set ms x true) t (lt-length-set ms x true h) ∙ go (eqb-says t x) (among t xs)
   where
-    go : {b : Bool} → Says (t ≡ x) b → (c : Bool) → cond c 1 (get_or (set ms x 1) t 0) ≡ cond (b || c) 1 (get_or ms t 0)
+    go : {b : Bool} → Says (t ≡ x) b → (c : Bool) → (c || get_or (set ms x true) t false) ≡ ((b || c) || get_or ms t false)
     go (pass e) true = refl
-    go (pass e) false = ap (λ (i : ℕ). get_or (set ms i 1) t 0) (sym e) ∙ get_or-set_same ms t 1 0 h
+    go (pass e) false = ap (λ (i : ℕ). get_or (set ms i true) t false) (sym e) ∙ get_or-set_same ms t true false h
     go (fail n) true = refl
-    go (fail n) false = get_or-set_other ms x t 1 0 n
+    go (fail n) false = get_or-set_other ms x t true false n
 
 -- a number is marked in a list of no marks where it is among the numbers
-pub mark-says : (xs : List ℕ) (m t : ℕ) → t < m → eqb (get_or (marked xs (replicate m 0)) t 0) 1 ≡ among t xs
-mark-says xs m t h = ap (λ (k : ℕ). eqb k 1) (marked-at xs (replicate m 0) t (rw length-replicate h) ∙ ap (cond (among t xs) 1) (get_or-replicate m t 0 0 h)) ∙ go (among t xs)
+pub mark-says : (xs : List ℕ) (m t : ℕ) → t < m → get_or (marked xs (replicate m false)) t false ≡ among t xs
+mark-says xs m t h = marked-at xs (replicate m false) t (rw length-replicate h) ∙ ap (λ (b : Bool). among t xs || b) (get_or-replicate m t false false h) ∙ go (among t xs)
   where
-    go : (b : Bool) → eqb (cond b 1 0) 1 ≡ b
+    go : (b : Bool) → (b || false) ≡ b
     go true = refl
     go false = refl
 
-module _ (m : ℕ) (ms xs : List ℕ) (t : ℕ) (h : t < m) (e : ms ≡ marked xs (replicate m 0)) where
+module _ (m : ℕ) (ms : List Bool) (xs : List ℕ) (t : ℕ) (h : t < m) (e : ms ≡ marked xs (replicate m false)) where
   -- a mark that is found is that of a number of the list
-  pub mark-found : eqb (get_or ms t 0) 1 ≡ true → among t xs ≡ true
+  pub mark-found : get_or ms t false ≡ true → among t xs ≡ true
   mark-found g = sym (mark-says xs m t h) ∙ rw (← e) g
 
   -- a mark that is missing is that of none
-  pub mark-missing : eqb (get_or ms t 0) 1 ≡ false → among t xs ≡ false
+  pub mark-missing : get_or ms t false ≡ false → among t xs ≡ false
   mark-missing g = sym (mark-says xs m t h) ∙ rw (← e) g
 
 -- so the marked numbers are those of the list
-pub marked-listed : (xs : List ℕ) (n m : ℕ) → n ≤ m → marked_below n (marked xs (replicate m 0)) ≡ listed n xs
+pub marked-listed : (xs : List ℕ) (n m : ℕ) → n ≤ m → marked_below n (marked xs (replicate m false)) ≡ listed n xs
 unfolding marked_below listed
-marked-listed xs n m h = keep_same (λ t. eqb (get_or (marked xs (replicate m 0)) t 0) 1) (λ t. among t xs) (upto n) (λ t k. mark-says xs m t (omega (arith, mem-upto n t k)))
+marked-listed xs n m h = keep_same (λ t. get_or (marked xs (replicate m false)) t false) (λ t. among t xs) (upto n) (λ t k. mark-says xs m t (omega (arith, mem-upto n t k)))
 
 -- ---- one number more
 
 -- one number more is marked
-pub marked_next : (xs ms : List ℕ) (k : ℕ) → k < length xs → marked (take (k + 1) xs) ms ≡ set (marked (take k xs) ms) (get_or xs k 0) 1
+pub marked_next : (xs : List ℕ) (ms : List Bool) (k : ℕ) → k < length xs → marked (take (k + 1) xs) ms ≡ set (marked (take k xs) ms) (get_or xs k 0) true
 unfolding marked
 marked_next xs ms k h =
-    ap (λ (l : List ℕ). foldl (λ ms t. set ms t 1) ms l) (ap (λ (n : ℕ). take n xs) (add-one k) ∙ take-suc xs k 0 h)
-    ∙ foldl-append (λ ms t. set ms t 1) ms (take k xs) (get_or xs k 0 ∷ [])
+    ap (λ (l : List ℕ). foldl (λ ms t. set ms t true) ms l) (ap (λ (n : ℕ). take n xs) (add-one k) ∙ take-suc xs k 0 h)
+    ∙ foldl-append (λ ms t. set ms t true) ms (take k xs) (get_or xs k 0 ∷ [])
 
 -- numbers after others
-pub marked_append : (xs ys ms : List ℕ) → marked (xs ++ ys) ms ≡ marked ys (marked xs ms)
+pub marked_append : (xs ys : List ℕ) (ms : List Bool) → marked (xs ++ ys) ms ≡ marked ys (marked xs ms)
 unfolding marked
-marked_append xs ys ms = foldl-append (λ ms t. set ms t 1) ms xs ys
+marked_append xs ys ms = foldl-append (λ ms t. set ms t true) ms xs ys
 
 -- the rows that one edge more meets
 pub met_next : (rs es : List (List ℕ)) (free : List ℕ) (k : ℕ) → k < length free → met rs es (take (k + 1) free) ≡ met rs es (take k free) ++ holding rs (get_or es (get_or free k 0) [])
@@ -98,59 +99,74 @@ met_next rs es free k h =
 pub holding-below : (rs : List (List ℕ)) (s own : List ℕ) → own ≡ holding rs s → (n : ℕ) → length rs ≤ n → Below own n
 holding-below rs s own e n h k l = let m = mem-holding rs s (subst (λ (x : List ℕ). Memᴰ (get_or own k 0) x) e (get_or-mem own k 0 l)) in omega (arith, m.0)
 
-module _ (marks : List ℕ) (t : ℕ) where
-  step : (b : Bool) → eqb (get_or marks t 0) 1 ≡ b → marked_below (t + 1) marks ≡ marked_below t marks ++ cond b (t ∷ []) []
+module _ (marks : List Bool) (t : ℕ) where
+  step : (b : Bool) → get_or marks t false ≡ b → marked_below (t + 1) marks ≡ marked_below t marks ++ cond b (t ∷ []) []
   unfolding marked_below upto
-  step b e = ap (λ (n : ℕ). keep (λ t. eqb (get_or marks t 0) 1) (upto n)) (add-one t) ∙ keep_snoc (λ t. eqb (get_or marks t 0) 1) (upto t) t ∙ ap (λ (c : Bool). keep (λ t. eqb (get_or marks t 0) 1) (upto t) ++ cond c (t ∷ []) []) e
+  step b e = ap (λ (n : ℕ). keep (λ t. get_or marks t false) (upto n)) (add-one t) ∙ keep_snoc (λ t. get_or marks t false) (upto t) t ∙ ap (λ (c : Bool). keep (λ t. get_or marks t false) (upto t) ++ cond c (t ∷ []) []) e
 
   -- a marked number is listed
-  pub marked-here : eqb (get_or marks t 0) 1 ≡ true → marked_below (t + 1) marks ≡ marked_below t marks ++ t ∷ []
+  pub marked-here : get_or marks t false ≡ true → marked_below (t + 1) marks ≡ marked_below t marks ++ t ∷ []
   marked-here e = step true e
 
   -- another is passed over
-  pub marked-past : eqb (get_or marks t 0) 1 ≡ false → marked_below (t + 1) marks ≡ marked_below t marks
+  pub marked-past : get_or marks t false ≡ false → marked_below (t + 1) marks ≡ marked_below t marks
   marked-past e = step false e ∙ append-nil (marked_below t marks)
 
 -- there are no fewer below a larger number
-marked_more : (marks : List ℕ) (n d : ℕ) → length (marked_below n marks) ≤ length (marked_below (n + d) marks)
+marked_more : (marks : List Bool) (n d : ℕ) → length (marked_below n marks) ≤ length (marked_below (n + d) marks)
 marked_more marks n zero = ap≤ (add-zero n)
   where
     ap≤ : n + zero ≡ n → length (marked_below n marks) ≤ length (marked_below (n + zero) marks)
     ap≤ e = rw e (omega arith)
-marked_more marks n (suc d) = go (eqb (get_or marks (n + d) 0) 1) refl (marked_more marks n d)
+marked_more marks n (suc d) = go (get_or marks (n + d) false) refl (marked_more marks n d)
   where
-    go : (b : Bool) → eqb (get_or marks (n + d) 0) 1 ≡ b → length (marked_below n marks) ≤ length (marked_below (n + d) marks) → length (marked_below n marks) ≤ length (marked_below (n + suc d) marks)
+    go : (b : Bool) → get_or marks (n + d) false ≡ b → length (marked_below n marks) ≤ length (marked_below (n + d) marks) → length (marked_below n marks) ≤ length (marked_below (n + suc d) marks)
     go b e r =
         let s : n + suc d ≡ n + d + 1 = omega arith in
         let l : length (marked_below (n + suc d) marks) ≡ length (marked_below (n + d) marks) + length (cond b ((n + d) ∷ []) []) = ap (λ (k : ℕ). length (marked_below k marks)) s ∙ ap length (step marks (n + d) b e) ∙ length-append (marked_below (n + d) marks) (cond b ((n + d) ∷ []) []) in
         omega arith
 
 -- a marked number has its place among all
-pub marked-room : (marks : List ℕ) (t n : ℕ) → t < n → eqb (get_or marks t 0) 1 ≡ true → length (marked_below t marks) < length (marked_below n marks)
+pub marked-room : (marks : List Bool) (t n : ℕ) → t < n → get_or marks t false ≡ true → length (marked_below t marks) < length (marked_below n marks)
 marked-room marks t n h e =
     let s : t + 1 + (n - (t + 1)) ≡ n = omega arith in
     let l : length (marked_below (t + 1) marks) ≡ length (marked_below t marks) + 1 = ap length (marked-here marks t e) ∙ length-append (marked_below t marks) (t ∷ []) in
     let m : length (marked_below (t + 1) marks) ≤ length (marked_below n marks) = subst (λ (k : ℕ). length (marked_below (t + 1) marks) ≤ length (marked_below k marks)) s (marked_more marks (t + 1) (n - (t + 1))) in
     omega arith
 
-none_below : (marks : List ℕ) → marked_below zero marks ≡ []
+none_below : (marks : List Bool) → marked_below zero marks ≡ []
 unfolding marked_below upto keep
 none_below marks = refl
 
 -- there are at most n below n
-pub marked-most : (marks : List ℕ) (n : ℕ) → length (marked_below n marks) ≤ n
+pub marked-most : (marks : List Bool) (n : ℕ) → length (marked_below n marks) ≤ n
 marked-most marks zero = rw (none_below marks) (omega arith)
-marked-most marks (suc n) = go (eqb (get_or marks n 0) 1) refl (marked-most marks n)
+marked-most marks (suc n) = go (get_or marks n false) refl (marked-most marks n)
   where
-    go : (b : Bool) → eqb (get_or marks n 0) 1 ≡ b → length (marked_below n marks) ≤ n → length (marked_below (suc n) marks) ≤ suc n
+    go : (b : Bool) → get_or marks n false ≡ b → length (marked_below n marks) ≤ n → length (marked_below (suc n) marks) ≤ suc n
     go true e r = omega (arith, ap (λ (k : ℕ). length (marked_below k marks)) (sym (add-one n)), ap length (step marks n true e), length-append (marked_below n marks) (n ∷ []))
     go false e r = omega (arith, ap (λ (k : ℕ). length (marked_below k marks)) (sym (add-one n)), ap length (marked-past marks n e))
 
+-- there are as many as there are marks
+pub marked-counted : (marks : List Bool) (n : ℕ) → n ≤ length marks → length (marked_below n marks) ≡ count_by (λ m. m) (take n marks)
+marked-counted marks zero h = rw (none_below marks) refl
+marked-counted marks (suc n) h = go (get_or marks n false) refl (marked-counted marks n (omega arith))
+  where
+    below : n < length marks
+    below = omega arith
+
+    next : length (marked_below (n + 1) marks) ≡ count_by (λ m. m) (take (n + 1) marks) → length (marked_below (suc n) marks) ≡ count_by (λ m. m) (take (suc n) marks)
+    next e = rw add-one at e
+
+    go : (b : Bool) → get_or marks n false ≡ b → length (marked_below n marks) ≡ count_by (λ m. m) (take n marks) → length (marked_below (suc n) marks) ≡ count_by (λ m. m) (take (suc n) marks)
+    go true e r = next (omega (arith, r, ap length (marked-here marks n e), length-append (marked_below n marks) (n ∷ []), count_by_more_yes (λ m. m) marks n false below e))
+    go false e r = next (omega (arith, r, ap length (marked-past marks n e), count_by_more_no (λ m. m) marks n false below e))
+
 -- ---- loops over marked numbers
 
-module _ {S X : Type 0} (d : S) (f : S → X → S) (event : ℕ → List (ℕ × X)) (marks : List ℕ) (t : ℕ) (old now : List S) (was : now ≡ scatter d f (gather event (marked_below t marks)) old) where
+module _ {S X : Type 0} (d : S) (f : S → X → S) (event : ℕ → List (ℕ × X)) (marks : List Bool) (t : ℕ) (old now : List S) (was : now ≡ scatter d f (gather event (marked_below t marks)) old) where
   -- the events of a marked number
-  pub scatter-here : eqb (get_or marks t 0) 1 ≡ true → (es : List (ℕ × X)) → es ≡ event t → (new : List S) → new ≡ scatter d f es now → new ≡ scatter d f (gather event (marked_below (t + 1) marks)) old
+  pub scatter-here : get_or marks t false ≡ true → (es : List (ℕ × X)) → es ≡ event t → (new : List S) → new ≡ scatter d f es now → new ≡ scatter d f (gather event (marked_below (t + 1) marks)) old
   scatter-here m es e new is =
       is
       ∙ rw (e, was) (sym (scatter-append d f (gather event (marked_below t marks)) (event t) old))
@@ -158,7 +174,7 @@ module _ {S X : Type 0} (d : S) (f : S → X → S) (event : ℕ → List (ℕ �
       ∙ ap (λ (l : List ℕ). scatter d f (gather event l) old) (sym (marked-here marks t m))
 
   -- and of another
-  pub scatter-past : eqb (get_or marks t 0) 1 ≡ false → now ≡ scatter d f (gather event (marked_below (t + 1) marks)) old
+  pub scatter-past : get_or marks t false ≡ false → now ≡ scatter d f (gather event (marked_below (t + 1) marks)) old
   scatter-past m = was ∙ ap (λ (l : List ℕ). scatter d f (gather event l) old) (sym (marked-past marks t m))
 
 -- ---- numbers that stand twice
@@ -187,8 +203,8 @@ stands-once xs x r a = no-repeat (xs ++ x ∷ []) (once-snoc xs x (once-of xs r)
         ((λ m. ⊎_elim o.0 (λ k. ⊎_elim (λ e. n (Memᴰ.head (sym e))) Memᴰ.not-nil (Memᴰ.cases_cons k)) (Memᴰ.append_cases xs m)), once-snoc xs x o.1 (λ m. n (Memᴰ.tail m)))
 
 -- a number that was listed is below the bound
-pub listed_below : (n : ℕ) (marks old new : List ℕ) → new ≡ over (marked_below n marks) old → (k : ℕ) → k < length (marked_below n marks) → get_or new k 0 < n
+pub listed_below : (n : ℕ) (marks : List Bool) (old new : List ℕ) → new ≡ over (marked_below n marks) old → (k : ℕ) → k < length (marked_below n marks) → get_or new k 0 < n
 unfolding over marked_below
 listed_below n marks old new e k h =
-    let own = keep (λ t. eqb (get_or marks t 0) 1) (upto n) in
-    mem-upto n (get_or new k 0) (keep-only (λ t. eqb (get_or marks t 0) 1) (upto n) (subst (λ (i : ℕ). Memᴰ i own) (sym (ap (λ (xs : List ℕ). get_or xs k 0) e ∙ get_or-append own (drop (length own) old) 0 k h)) (get_or-mem own k 0 h)))
+    let own = keep (λ t. get_or marks t false) (upto n) in
+    mem-upto n (get_or new k 0) (keep-only (λ t. get_or marks t false) (upto n) (subst (λ (i : ℕ). Memᴰ i own) (sym (ap (λ (xs : List ℕ). get_or xs k 0) e ∙ get_or-append own (drop (length own) old) 0 k h)) (get_or-mem own k 0 h)))

@@ -1,116 +1,97 @@
-// Marks: a byte for each triangle or pentachoron, 1 where it is marked.
+// Marks: for each triangle or pentachoron whether it is marked.
 #![tactic(auto)]
 
-ghost use Rattle.std.specs.Prelude.{◌≡◌, true, ◌≤◌, length};
+ghost use Rattle.std.specs.Prelude.{◌≡◌, ℕ, List, [], ◌≤◌, length};
 ghost use Rattle.lists.specs.Rows.{over};
 ghost use Rattle.lists.specs.Groups.{Below};
 ghost use Rattle.complex.specs.Builder.{repeats};
 ghost use Rattle.complex.specs.Lent.{pents_of, edges_of, triangles_of, IsHolding};
-ghost use Rattle.marks.specs.Marks.{met, marked, marked_below};
+ghost use Rattle.marks.specs.Marks.{met, marked, marked_below, IsMeeting};
 
-use complex::Complex;
-use incidence::{EdgeNumber, pents_of_edge, tris_of_edge};
+use complex::{AdjacencyList, Complex};
+use incidence::row;
+
+// ---- marks are set
 
 // Marks all numbers of a list.
-pub fn mark_all(numbers: &[u32], marks: &mut [u8])
+#[tactic(auto, unfolding(crate::specs::Marks::marked))]
+pub fn mark_all(numbers: &[u32], marks: &mut [bool])
     requires { Below numbers.now (length marks.old) }
     ensures { marks.new ≡ marked numbers.now marks.old }
 {
-    let mut k = 0;
-    while k < numbers.len() {
-        marks[numbers[k] as usize] = 1;
-        k += 1;
+    for &number in numbers {
+        marks[number as usize] = true;
+    }
+}
+
+// Marks the numbers that free edges have in an adjacency list.
+#[tactic(auto, unfolding(crate::specs::Marks::marked, crate::specs::Marks::met, lists::specs::Lists::gather))]
+fn mark_met<'a>(adjacency: &AdjacencyList<'a>, free_edges: &'a [u32], marks: &mut [bool])
+    requires { (rs : List (List ℕ)) × (edges : List (List ℕ)) × IsMeeting rs edges adjacency.now free_edges.now (length marks.old) }
+    ensures { (rs : List (List ℕ)) (edges : List (List ℕ)) → IsMeeting rs edges adjacency.now free_edges.now (length marks.old) → marks.new ≡ marked (met rs edges free_edges.now) marks.old }
+{
+    for &edge in free_edges {
+        mark_all(row(adjacency, edge as usize), marks);
     }
 }
 
 // Marks the triangles on free edges.
-pub fn mark_tris<'a>(
-    complex: &Complex<'a>,
-    free_edges: &'a [u32],
-    marks: &mut [u8],
-)
+pub fn mark_tris<'a>(complex: &Complex<'a>, free_edges: &'a [u32], marks: &mut [bool])
     requires { (IsHolding (triangles_of complex.now) (edges_of complex.now) complex.now.edge_to_tris)
         × Below free_edges.now complex.now.counts.edges × (complex.now.counts.triangles ≤ length marks.old) }
     ensures { marks.new ≡ marked (met (triangles_of complex.now) (edges_of complex.now) free_edges.now) marks.old }
 {
-    let mut k = 0;
-    while k < free_edges.len() {
-        let own = tris_of_edge(
-            complex,
-            EdgeNumber(free_edges[k]),
-        );
-        mark_all(own, marks);
-        k += 1;
-    }
+    mark_met(&complex.edge_to_tris, free_edges, marks);
 }
 
 // Marks the pentachorons on free edges.
-pub fn mark_pents<'a>(
-    complex: &Complex<'a>,
-    free_edges: &'a [u32],
-    marks: &mut [u8],
-)
+pub fn mark_pents<'a>(complex: &Complex<'a>, free_edges: &'a [u32], marks: &mut [bool])
     requires { (IsHolding (pents_of complex.now) (edges_of complex.now) complex.now.edge_to_pents)
         × Below free_edges.now complex.now.counts.edges × (complex.now.counts.pentachorons ≤ length marks.old) }
     ensures { marks.new ≡ marked (met (pents_of complex.now) (edges_of complex.now) free_edges.now) marks.old }
 {
-    let mut k = 0;
-    while k < free_edges.len() {
-        let own = pents_of_edge(
-            complex,
-            EdgeNumber(free_edges[k]),
-        );
-        mark_all(own, marks);
-        k += 1;
-    }
+    mark_met(&complex.edge_to_pents, free_edges, marks);
 }
 
+// ---- marks are read
+
 // How many numbers below n are marked.
-pub fn count_marked(n: usize, marks: &[u8]) -> usize
+pub fn count_marked(n: usize, marks: &[bool]) -> usize
     requires { n ≤ length marks.now }
     ensures { result ≡ length (marked_below n marks.now) }
 {
-    let mut count = 0;
-    let mut t = 0;
-    while t < n {
-        if marks[t] == 1 {
-            count += 1;
-        }
-        t += 1;
-    }
-    count
+    marks[..n].iter().filter(|mark| **mark).count()
 }
 
 // Writes the marked numbers below n, ascending.
-pub fn list_marked(n: usize, marks: &[u8], list: &mut [u32])
+#[tactic(auto, unfolding(crate::specs::Marks::marked_below, lists::specs::Lists::upto, lists::specs::Lists::keep, lists::specs::Rows::over))]
+pub fn list_marked(n: usize, marks: &[bool], list: &mut [u32])
     requires { (n ≤ length marks.now) × (n ≤ 81920) × (length (marked_below n marks.now) ≤ length list.old) }
     ensures { list.new ≡ over (marked_below n marks.now) list.old }
 {
+    // By a count, and no zip with `iter_mut`: of what is written through that a proof knows no element.
     let mut count = 0;
-    let mut t = 0u32;
-    while (t as usize) < n {
-        if marks[t as usize] == 1 {
-            list[count] = t;
+    let own = &marks[..n];
+    for (t, mark) in own.iter().enumerate() {
+        if *mark {
+            list[count] = t as u32;
             count += 1;
         }
-        t += 1;
     }
 }
 
 // Whether some number stands twice, all of them below 81,920.
+#[tactic(auto, unfolding(crate::specs::Marks::marked, complex::specs::Builder::repeats))]
 pub fn stands_twice(numbers: &[u32]) -> bool
     requires { Below numbers.now 81920 }
     ensures { result ≡ repeats numbers.now }
 {
-    let mut marks = [0u8; 81920];
-    let mut k = 0;
-    while k < numbers.len() {
-        let number = numbers[k] as usize;
-        if marks[number] == 1 {
+    let mut marks = [false; 81920];
+    for &number in numbers {
+        if marks[number as usize] {
             return true;
         }
-        marks[number] = 1;
-        k += 1;
+        marks[number as usize] = true;
     }
     false
 }

@@ -12,7 +12,7 @@ ghost use Rattle.packed_input.specs.Decoding.{complex_of, complex_check_of, give
 
 use bits::number;
 use builder::from_pentachorons;
-use complex::{AdjacencyListMut, Counts, ListsMut};
+use complex::{Counts, ListsMut};
 use fields::{check_header, check_tail, read_lengths, read_vertices};
 use refusals::Refusal;
 
@@ -90,18 +90,12 @@ pub fn decode(input: &[u8]) -> Decoded
         edges: &mut edges,
         triangles: &mut triangles,
         tets: &mut tets,
-        tri_to_pents: AdjacencyListMut {
-            items: &mut tri_to_pents_items,
-            starts: &mut tri_to_pents_starts,
-        },
-        edge_to_tris: AdjacencyListMut {
-            items: &mut edge_to_tris_items,
-            starts: &mut edge_to_tris_starts,
-        },
-        edge_to_pents: AdjacencyListMut {
-            items: &mut edge_to_pents_items,
-            starts: &mut edge_to_pents_starts,
-        },
+        tri_to_pents_items: &mut tri_to_pents_items,
+        tri_to_pents_starts: &mut tri_to_pents_starts,
+        edge_to_tris_items: &mut edge_to_tris_items,
+        edge_to_tris_starts: &mut edge_to_tris_starts,
+        edge_to_pents_items: &mut edge_to_pents_items,
+        edge_to_pents_starts: &mut edge_to_pents_starts,
     };
     let built = decode_complex(input, &mut lists);
     let answer = decode_lengths(input, built, &mut sq_lengths);

@@ -8,30 +8,33 @@ use mathlib.Core.Path.{◌≡◌, refl, sym, ap, ◌∙◌}
 use native.Mathlib.Numerals.{add-one}
 use native.Mathlib.Omega.{arith}
 use lib.Dec.{ltb}
+use lib.Ieee.{Float}
 use lib.ListN.{length, get_or, take, replicate}
 use lib.Seq.{take-suc}
 use borrow.Author.Tests.{ltb-true, ltb-false}
+use Rattle.refusals.specs.declared.Refusal.{Refusal}
 use Rattle.refusals.specs.declared.Refusal.TheVariants.{EdgeTooLarge}
-use Rattle.lists.specs.Lists.{gather}
+use Rattle.lists.specs.Lists.{gather, upto, among}
 use Rattle.lists.specs.Rows.{over}
 use Rattle.lists.specs.Groups.{Below}
 use Rattle.lists.proofs.Tests.{said}
-use Rattle.lists.proofs.Elements.{get_or-mem, gather-snoc}
-use Rattle.lists.proofs.Rows.{length-rows}
+use Rattle.lists.proofs.Elements.{get_or-mem, gather-snoc, keep-only, mem-upto}
+use Rattle.lists.proofs.Rows.{length-rows, over-take}
+use Rattle.complex.specs.declared.Complex.{Complex}
 use Rattle.complex.specs.declared.Counts.{Counts}
 use Rattle.complex.specs.Complex.{row_numbers}
-use Rattle.complex.specs.Builder.{Lists}
-use Rattle.complex.specs.Check.{pents_in, edges_in, triangles_in, holds}
+use Rattle.complex.specs.Check.{pents_in, triangles_in}
+use Rattle.complex.specs.Lent.{lists_of, pents_of, edges_of, IsHolding}
 use Rattle.complex.proofs.Offences.{or-false}
 use Rattle.comparison.proofs.BuiltComplex.{built-says, built-edge-to-pents}
 use Rattle.marks.specs.Marks.{listed, marked, marked_below}
-use Rattle.marks.proofs.Marking.{marked-listed, marked-most, listed_below}
-use Rattle.hinges.specs.Hinges.{FaceLists, faces_in}
+use Rattle.marks.proofs.Marking.{marked-listed, marked-most}
+use Rattle.hinges.specs.Hinges.{FaceLists, faces_of}
 use Rattle.hinges.specs.Parts.{Found, Measured}
 use Rattle.hinges.proofs.PentachoronSteps.{numbers-below}
 use Rattle.calls.specs.Calls.{BuiltWith, lengths_check_of, room_check_of, short_table}
-use Rattle.calls.proofs.BuiltCalls.{built-measured, lengths-passed, room-passed, done-not-refused}
-use Rattle.retouch.specs.Retouch.{around, touched, edge_check_of}
+use Rattle.calls.proofs.BuiltCalls.{built-measured, lengths-passed, lengths-decided, room-passed, done-not-refused}
+use Rattle.retouch.specs.Retouch.{around, touched, edge_check_of, Retouched}
 
 -- ---- the triangles of pentachorons
 
@@ -56,31 +59,45 @@ triangles-below c pents triangles found p inside own e m h =
 -- ---- marks
 
 -- the marked triangles are those of the pentachorons that contain the edge
-pub marks-touched : (c : Counts) (pents edges triangles : List ℕ) (e m : ℕ) → c.triangles ≤ m → (marks : List ℕ) → marks ≡ marked (around (faces_in c pents edges triangles) e) (replicate m 0)
-    → marked_below c.triangles marks ≡ touched (faces_in c pents edges triangles) e
-marks-touched c pents edges triangles e m h marks is =
-    let own = around (faces_in c pents edges triangles) e in
-    ap (marked_below c.triangles) is
-    ∙ marked-listed own c.triangles m h
-    ∙ ap (λ (k : ℕ). listed k own) (sym (length-rows 3 c.triangles triangles))
+pub marks-touched : (x : Complex) (e m : ℕ) → x.counts.triangles ≤ m → (marks : List Bool) → marks ≡ marked (around (faces_of x) e) (replicate m false)
+    → marked_below x.counts.triangles marks ≡ touched (faces_of x) e
+marks-touched x e m h marks is =
+    let own = around (faces_of x) e in
+    ap (marked_below x.counts.triangles) is
+    ∙ marked-listed own x.counts.triangles m h
+    ∙ ap (λ (k : ℕ). listed k own) (sym (length-rows 3 x.counts.triangles x.triangles.now))
 
-module _ (c : Counts) (pents edges triangles : List ℕ) (e : ℕ) where
-  abbrev own : List ℕ
-  own = touched (faces_in c pents edges triangles) e
+-- there are no more than triangles
+pub touched-most : (x : Complex) (e : ℕ) → length (touched (faces_of x) e) ≤ x.counts.triangles
+touched-most x e =
+    rw (← marks-touched x e x.counts.triangles (omega arith) _ refl) (marked-most (marked (around (faces_of x) e) (replicate x.counts.triangles false)) x.counts.triangles)
 
-  -- the same, in a list with a mark for each triangle
-  touched-marks : marked_below c.triangles (marked (around (faces_in c pents edges triangles) e) (replicate c.triangles 0)) ≡ own
-  touched-marks = marks-touched c pents edges triangles e c.triangles (omega arith) _ refl
-
-  -- there are no more than triangles
-  pub touched-most : length own ≤ c.triangles
-  touched-most = rw (← touched-marks) (marked-most _ c.triangles)
-
-  -- one that was listed is below their count
-  pub touched-below : (old new : List ℕ) → new ≡ over own old → (k : ℕ) → k < length own → get_or new k 0 < c.triangles
-  touched-below old new is k h = listed_below c.triangles (marked (around (faces_in c pents edges triangles) e) (replicate c.triangles 0)) old new (rw touched-marks is) k (rw touched-marks h)
+-- each is the number of a triangle
+pub touched-below : (x : Complex) (e : ℕ) → Below (touched (faces_of x) e) x.counts.triangles
+unfolding listed
+touched-below x e k h =
+    let n = length (triangles_in x.counts x.triangles.now) in
+    omega (arith, mem-upto n _ (keep-only (λ t. among t (around (faces_of x) e)) (upto n) (get_or-mem (touched (faces_of x) e) k 0 h)), length-rows 3 x.counts.triangles x.triangles.now)
 
 -- ---- checks
+
+-- what the check of the edge refuses, it refuses before the other checks
+pub edge-refused : (c : Counts) (e : ℕ) (others : Outcome) {r : Refusal} → edge_check_of c e Done ≡ Err r → edge_check_of c e others ≡ Err r
+unfolding edge_check_of
+edge-refused c e others h = go (ltb e c.edges) h
+  where
+    go : (b : Bool) {r : Refusal} → cond b Done (Err EdgeTooLarge) ≡ Err r → cond b others (Err EdgeTooLarge) ≡ Err r
+    go true h = absurd (done-not-refused h)
+    go false h = h
+
+-- what it lets pass, the other checks decide
+pub edge-decided : (c : Counts) (e : ℕ) (others : Outcome) → edge_check_of c e Done ≡ Done → edge_check_of c e others ≡ others
+unfolding edge_check_of
+edge-decided c e others h = go (ltb e c.edges) h
+  where
+    go : (b : Bool) → cond b Done (Err EdgeTooLarge) ≡ Done → cond b others (Err EdgeTooLarge) ≡ others
+    go true h = refl
+    go false h = absurd (done-not-refused (sym h))
 
 -- where the check of the edge lets a call pass
 edge-passed : (c : Counts) (e : ℕ) (others : Outcome) → edge_check_of c e others ≡ Done → (e < c.edges) × (others ≡ Done)
@@ -104,22 +121,44 @@ table-room c ds ks h =
     let s = or-false (ltb ds c.triangles) (ltb ks c.triangles) (room-passed (short_table c ds ks) h) in
     (ltb-false ds c.triangles s.0, ltb-false ks c.triangles s.1)
 
--- what a retouch with n lengths has where the checks of lengths and edge let it pass
-pub record Passed (c : Counts) (l : Lists) (pe pt : List ℕ) (n e : ℕ) : Type 0 where
-  pub measured : (m : ℕ) → m ≡ n → Measured c l.pents l.edges l.triangles l.tri_to_pents l.tri_to_pents_starts pe pt m
-  pub on_pents : holds (pents_in c l.pents) (edges_in c l.edges) l.edge_to_pents l.edge_to_pents_starts ≡ true
-  pub counted : n ≡ c.edges
-  pub inside : e < c.edges
+-- the checks of lengths, edge and room in turn answer what they say together
+module _ (c : Counts) (n e : ℕ) (others : Outcome) (lengths : lengths_check_of c n Done ≡ Done) where
+  pub edge-second : {r : Refusal} → edge_check_of c e Done ≡ Err r → lengths_check_of c n (edge_check_of c e others) ≡ Err r
+  edge-second edge = lengths-decided c n (edge_check_of c e others) lengths ∙ edge-refused c e others edge
+
+  pub others-third : edge_check_of c e Done ≡ Done → lengths_check_of c n (edge_check_of c e others) ≡ others
+  others-third edge = lengths-decided c n (edge_check_of c e others) lengths ∙ edge-decided c e others edge
+
+-- what a retouch of a built complex with n lengths has where the checks of lengths and edge let it pass
+pub record Passed (x : Complex) (pe pt : List ℕ) (n e : ℕ) : Type 0 where
+  pub measured : (m : ℕ) → m ≡ n → Measured x.counts x.pents.now x.edges.now x.triangles.now x.tri_to_pents.items.now x.tri_to_pents.starts.now pe pt m
+  pub on_pents : IsHolding (pents_of x) (edges_of x) x.edge_to_pents
+  pub counted : n ≡ x.counts.edges
+  pub inside : e < x.counts.edges
+  pub few : x.counts.triangles ≤ 81920
 
 -- it has them
-pub retouch-passed : (c : Counts) (l : Lists) (pe pt : List ℕ) (n e : ℕ) (others : Outcome) → BuiltWith c l pe pt → lengths_check_of c n (edge_check_of c e others) ≡ Done → Passed c l pe pt n e × (others ≡ Done)
-retouch-passed c l pe pt n e others w h =
-    let p = edges-passed c n e others h in (
-      record {
-        measured = λ m k. built-measured c l pe pt m w (k ∙ p.0);
-        on_pents = built-edge-to-pents c l (said (built-says c l) w.built);
-        counted = p.0;
-        inside = p.1;
-      },
-      p.2,
-    )
+pub retouch-passed : (x : Complex) {pe pt : List ℕ} (n e : ℕ) → BuiltWith x.counts (lists_of x) pe pt → lengths_check_of x.counts n Done ≡ Done → edge_check_of x.counts e Done ≡ Done → Passed x pe pt n e
+retouch-passed x {pe} {pt} n e w lengths edge =
+    let counted = (lengths-passed x.counts n Done lengths).0 in
+    record {
+      measured = λ m k. built-measured x.counts (lists_of x) pe pt m w (k ∙ counted);
+      on_pents = built-edge-to-pents x.counts (lists_of x) (said (built-says x.counts (lists_of x)) w.built);
+      counted = counted;
+      inside = (edge-passed x.counts e Done edge).0;
+      few = (built-measured x.counts (lists_of x) pe pt n w counted).few;
+    }
+
+-- ---- the lists that are lent
+
+-- the triangles that were listed
+pub listed-touched : (x : Complex) (e count : ℕ) (old tris : List ℕ) → count ≡ length (touched (faces_of x) e) → tris ≡ over (touched (faces_of x) e) old → take count tris ≡ touched (faces_of x) e
+listed-touched x e count old tris many is = ap (take count) is ∙ over-take (touched (faces_of x) e) old count (sym many)
+
+-- scratch for one number a triangle has room for them
+pub touched-room : (x : Complex) (e count : ℕ) (tris : List ℕ) → count ≡ length (touched (faces_of x) e) → x.counts.triangles ≤ length tris → count ≤ length tris
+touched-room x e count tris many room = omega (arith, touched-most x e)
+
+-- what a retouch leaves where it is refused
+pub retouched-refused : {o : Outcome} {F : FaceLists} {ls : List Float} {e : ℕ} {x : Float} {ds : List Float} {ks : List ℕ} {r : Outcome} {q : Refusal} → o ≡ Err q → r ≡ Err q → Retouched o F ls e x ds ks r ls ds ks
+retouched-refused says is = rw is (record { answered = sym says; lengths = refl; deficits = refl; kinds = refl })

@@ -38,7 +38,14 @@ pub fn retouch_built(
     let mut tris = [0u32; 81920];
     let count = list_touched(&built.complex, &built.incidence, edge, &mut tris);
     sq_lengths[edge.0 as usize] = sq_length;
-    write_records(&built.complex, &built.incidence, sq_lengths, count, &tris, deficits, kinds);
+    write_records(
+        &built.complex,
+        &built.incidence,
+        sq_lengths,
+        &tris[..count],
+        deficits,
+        kinds,
+    );
     Ok(())
 }
 

@@ -1,5 +1,6 @@
 // Records of a table of hinges in two plain lists, worked out anew.
-ghost use Rattle.std.specs.Prelude.{◌≡◌, ℕ, ◌≤◌, ◌<◌, length, get_or, take};
+ghost use Rattle.std.specs.Prelude.{◌≡◌, ◌≤◌, length};
+ghost use Rattle.lists.specs.Groups.{Below};
 ghost use Rattle.lists.specs.Writes.{writes};
 ghost use Rattle.lorentzian.specs.Dihedral.{kind_number};
 ghost use Rattle.hinges.specs.Hinges.{faces_of, hinges, hinge_in};
@@ -9,28 +10,24 @@ use complex::{Complex, Incidence};
 use hinges::hinge_at;
 use incidence::TriangleNumber;
 
-// Writes the deficits and kinds of the first `count` triangles of a list, each at its own place.
-pub fn write_records(
-    complex: &Complex<'_>,
-    incidence: &Incidence<'_>,
-    sq_lengths: &[f64],
-    count: usize,
+// Writes the deficits and kinds of the triangles of a list, each at its own place. A table of records is written by a loop that is the
+// same but for what it stores; a trait of such stores, with its law and two impls, would be longer than both loops.
+pub fn write_records<'a>(
+    complex: &Complex<'a>,
+    incidence: &Incidence<'a>,
+    sq_lengths: &'a [f64],
     tris: &[u32],
     deficits: &mut [f64],
     kinds: &mut [u8],
 )
     requires { IsMeasured complex.now incidence.now (length sq_lengths.now)
-        × (count ≤ length tris.now) × ((k : ℕ) → k < count → get_or tris.now k 0 < complex.now.counts.triangles) × (complex.now.counts.triangles ≤ length deficits.old) × (complex.now.counts.triangles ≤ length kinds.old) }
-    ensures { (deficits.new ≡ writes (λ t. (hinge_in (hinges (faces_of complex.now) sq_lengths.now) t).deficit) (take count tris.now) deficits.old)
-        × (kinds.new ≡ writes (λ t. kind_number (hinge_in (hinges (faces_of complex.now) sq_lengths.now) t).kind) (take count tris.now) kinds.old) }
+        × Below tris.now complex.now.counts.triangles × (complex.now.counts.triangles ≤ length deficits.old) × (complex.now.counts.triangles ≤ length kinds.old) }
+    ensures { (deficits.new ≡ writes (λ t. (hinge_in (hinges (faces_of complex.now) sq_lengths.now) t).deficit) tris.now deficits.old)
+        × (kinds.new ≡ writes (λ t. kind_number (hinge_in (hinges (faces_of complex.now) sq_lengths.now) t).kind) tris.now kinds.old) }
 {
-    let mut k = 0;
-    while k < count {
-        let tri = tris[k];
+    for &tri in tris {
         let hinge = hinge_at(complex, incidence, sq_lengths, TriangleNumber(tri));
-        let kind = hinge.kind;
         deficits[tri as usize] = hinge.deficit;
-        kinds[tri as usize] = kind.number();
-        k += 1;
+        kinds[tri as usize] = hinge.kind.number();
     }
 }

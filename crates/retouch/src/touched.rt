@@ -18,19 +18,18 @@ use refusals::Refusal;
 pub fn check_edge(counts: Counts, edge: EdgeNumber) -> Result<(), Refusal>
     ensures { result ≡ edge_check_of counts edge.0 Done }
 {
-    let e = edge.0 as usize;
-    if e < counts.edges {
-        return Ok(());
+    if edge.0 as usize >= counts.edges {
+        return Err(Refusal::EdgeTooLarge);
     }
-    Err(Refusal::EdgeTooLarge)
+    Ok(())
 }
 
 // Marks the triangles of each pentachoron that contains an edge.
-fn mark_touched(
-    complex: &Complex<'_>,
-    incidence: &Incidence<'_>,
+fn mark_touched<'a>(
+    complex: &Complex<'a>,
+    incidence: &Incidence<'a>,
     edge: EdgeNumber,
-    marks: &mut [u8],
+    marks: &mut [bool],
 )
     requires { (IsHolding (pents_of complex.now) (edges_of complex.now) complex.now.edge_to_pents)
         × HasTriangleNumbers complex.now incidence.now
@@ -38,26 +37,17 @@ fn mark_touched(
         × (edge.0 < complex.now.counts.edges) × (complex.now.counts.triangles ≤ length marks.old) }
     ensures { marks.new ≡ marked (around (faces_of complex.now) edge.0) marks.old }
 {
-    let holders = pents_of_edge(
-        complex,
-        edge,
-    );
-    let mut k = 0;
-    while k < holders.len() {
-        let tris = pent_tri_indices(
-            complex,
-            incidence,
-            PentachoronNumber(holders[k]),
-        );
+    let holders = pents_of_edge(complex, edge);
+    for &holder in holders {
+        let tris = pent_tri_indices(complex, incidence, PentachoronNumber(holder));
         mark_all(tris, marks);
-        k += 1;
     }
 }
 
 // Writes the numbers of those triangles, each once, ascending; answers how many there are.
-pub fn list_touched(
-    complex: &Complex<'_>,
-    incidence: &Incidence<'_>,
+pub fn list_touched<'a>(
+    complex: &Complex<'a>,
+    incidence: &Incidence<'a>,
     edge: EdgeNumber,
     tris: &mut [u32],
 ) -> usize
@@ -68,13 +58,8 @@ pub fn list_touched(
     ensures { (result ≡ length (touched (faces_of complex.now) edge.0))
         × (tris.new ≡ over (touched (faces_of complex.now) edge.0) tris.old) }
 {
-    let mut marks = [0u8; 81920];
-    mark_touched(
-        complex,
-        incidence,
-        edge,
-        &mut marks,
-    );
+    let mut marks = [false; 81920];
+    mark_touched(complex, incidence, edge, &mut marks);
     list_marked(complex.counts.triangles, &marks, tris);
     count_marked(complex.counts.triangles, &marks)
 }

@@ -178,7 +178,7 @@ fn grad_opposite(s: &[f64; 10], k: usize) -> [f64; 10]
     ensures { result ≡ grad_in_pent s.now (get_or (left_by k) 0 0) (get_or (left_by k) 1 0) (get_or (left_by k) 2 0) }
 {
     let mut grad = [0.0; 10];
-    let _answer = tri_area_sq_grad_in_pent(s, VERTICES[k], &mut grad);
+    let _ = tri_area_sq_grad_in_pent(s, VERTICES[k], &mut grad);
     grad
 }
 

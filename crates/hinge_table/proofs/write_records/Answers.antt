@@ -1,47 +1,37 @@
 -- `hinge_table::write_records` meets its contract. Assumes nothing.
-use Prim.Native.Nat.{ℕ}
-use mathlib.Core.List.{List}
-use mathlib.Core.Path.{◌≡◌, refl, sym, ap, ◌∙◌}
+use mathlib.Core.Path.{refl, sym, ap, ◌∙◌}
 use native.Mathlib.Omega.{arith}
 use lib.ListN.{get_or, set, take, length-set}
+use lib.Seq.{take_all}
 use Rattle.lists.specs.Writes.{writes}
 use Rattle.lists.proofs.Writes.{writes-next}
-use Rattle.hinges.specs.declared.hinge.Hinge.{Hinge}
 use Rattle.hinges.specs.Hinges.{hinges, hinge_in, faces_of}
 use Rattle.hinge_table.proofs.write_records.Goals as goal
 
-pub loop-k-init : goal.loop-k-init
+pub loop-tri-init : goal.loop-tri-init
 unfolding writes
-loop-k-init c = (omega arith, refl, refl)
+loop-tri-init c = (refl, refl)
 
-pub place_at-at-requires : goal.place_at-at-requires
-place_at-at-requires c = omega (arith, c.loop-k-test.true, c.requires.listed)
+pub hinge_at-requires : goal.hinge_at-requires
+hinge_at-requires c = (c.requires.0, c.requires.1 c.loop-tri.tri-index c.loop-tri-test.true)
 
-pub record_at-hinge-requires : goal.record_at-hinge-requires
-record_at-hinge-requires c = (c.requires.measured (omega (arith, c.loop-k-test.true)), omega (arith, c.place_at-at.ensures, c.requires.below c.loop-k.k c.loop-k-test.true))
+pub bounds-table-tri : goal.bounds-table-tri
+bounds-table-tri c = omega (arith, c.requires.1 c.loop-tri.tri-index c.loop-tri-test.true, c.requires.2, c.loop-tri.invariant.0)
 
-pub bounds-table-at : goal.bounds-table-at
-bounds-table-at c =
-    omega (arith, c.place_at-at.ensures, c.requires.below c.loop-k.k c.loop-k-test.true, c.requires.room (omega (arith, c.loop-k-test.true)), c.loop-k.invariant.1)
-
-pub loop-k-preserved : goal.loop-k-preserved
-loop-k-preserved c =
+pub loop-tri-preserved : goal.loop-tri-preserved
+loop-tri-preserved c =
     let a = c.args in
-    let l = c.loop-k in
+    let l = c.loop-tri in
     let T = hinges (faces_of a.complex.now) a.sq_lengths.now in
-    let t = get_or a.tris.now l.k 0 in (
-      omega (arith, c.loop-k-test.true),
-      length-set l.table _ _ ∙ l.invariant.1,
-      ap (set l.table c.place_at-at.result) c.record_at-hinge.ensures
-          ∙ ap (λ (n : ℕ). set l.table n (hinge_in T n)) c.place_at-at.ensures
-          ∙ ap (λ (xs : List Hinge). set xs t (hinge_in T t)) l.invariant.2
-          ∙ sym (writes-next (hinge_in T) a.tris.now a.table.now l.k (omega (arith, c.loop-k-test.true, c.requires.listed))),
+    let t = get_or a.tris.now l.tri-index 0 in (
+      length-set l.table _ _ ∙ l.invariant.0,
+      ap (set l.table t) c.hinge_at.ensures
+          ∙ ap (λ xs. set xs t (hinge_in T t)) l.invariant.1
+          ∙ sym (writes-next (hinge_in T) a.tris.now a.table.now l.tri-index c.loop-tri-test.true),
     )
 
 pub returns : goal.returns
 returns c =
     let a = c.args in
-    let l = c.loop-k in
-    let T = hinges (faces_of a.complex.now) a.sq_lengths.now in
-    let e : l.k ≡ a.count = omega arith in
-    l.invariant.2 ∙ ap (λ (n : ℕ). writes (hinge_in T) (take n a.tris.now) a.table.now) e
+    let l = c.loop-tri in
+    l.invariant.1 ∙ ap (λ ts. writes (hinge_in (hinges (faces_of a.complex.now) a.sq_lengths.now)) ts a.table.now) (take_all l.tri-index a.tris.now (omega (arith, c.loop-tri-test.false)))

@@ -1,25 +1,12 @@
 -- `incidence::local_index` meets its contract. Assumes nothing.
-use native.Mathlib.Omega.{arith}
-use Rattle.lists.proofs.Tests.{said}
-use Rattle.lists.proofs.Elements.{mem-get_or, among-says}
-use Rattle.incidence.proofs.Incident.{sought-next}
+use Rattle.std.proofs.Common.{◌≡◌, ◌≢◌, rules}
+use Rattle.std.proofs.lemmas.Iterator.{IsFirst-from_position, YieldsList-from_slice}
+use borrow.Author.Tests.{tests}
+use Rattle.incidence.proofs.Incident.{sought-found}
 use Rattle.incidence.proofs.local_index.Goals as goal
 
-pub loop-q-init : goal.loop-q-init
-loop-q-init c =
-    let w = mem-get_or 0 (said (among-says c.args.n c.args.numbers.now) c.requires) in
-    (w.0, omega arith, w.1, w.2)
-
-pub bounds-numbers-q : goal.bounds-numbers-q
-bounds-numbers-q c = omega (arith, c.loop-q.invariant.1, c.loop-q.invariant.2)
-
-pub loop-q-preserved : goal.loop-q-preserved
-loop-q-preserved c =
-    let l = c.loop-q in
+pub unwrap-requires : goal.unwrap-requires
+unwrap-requires c =
     let a = c.args in
-    let w = l.invariant in
-    let h = sought-next a.numbers.now a.n l.q w.0 w.1 w.3 c.loop-q-test.true in
-    (w.0, omega arith, w.2, w.3)
-
-pub returns : goal.returns
-returns c = (omega arith, c.loop-q-test.false)
+    sought-found a.n a.numbers.now c.position.result c.requires
+    (IsFirst-from_position _ _ _ (λ v. v ≡ a.n) (λ v. v ≢ a.n) c.position.ensures.ran (YieldsList-from_slice a.numbers.now cc) (λ x q k. search (rules, tests)) (λ x q k. search (rules, tests)))

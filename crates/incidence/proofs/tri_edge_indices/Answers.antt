@@ -1,7 +1,6 @@
 -- `incidence::tri_edge_indices` meets its contract. Assumes nothing.
 use mathlib.Core.Path.{◌∙◌}
-use lib.ListN.{get_or}
-use Rattle.lists.specs.Rows.{rows}
+use Rattle.complex.specs.Lent.{edges_of}
 use Rattle.incidence.proofs.Incident.{first_holder, ten-own, own-triangle, below-ten, edges-own}
 use Rattle.incidence.proofs.tri_edge_indices.Goals as goal
 
@@ -10,56 +9,46 @@ bounds-holders-0 c =
     let a = c.args in
     let r = c.requires in
     let hs = c.pents_of_triangle-holders in
-    let f = first_holder a.complex.now.counts.pentachorons a.complex.now.counts.triangles a.complex.now.pents.now a.complex.now.triangles.now r.1 a.tri.0 r.5 hs.result.now hs.ensures in
-    f.0
+    (first_holder a.complex.now r.1 a.tri.0 r.5 hs.result.now hs.ensures).0
 
 pub pent_tri_indices-tris-requires : goal.pent_tri_indices-tris-requires
 pent_tri_indices-tris-requires c =
     let a = c.args in
     let r = c.requires in
     let hs = c.pents_of_triangle-holders in
-    let f = first_holder a.complex.now.counts.pentachorons a.complex.now.counts.triangles a.complex.now.pents.now a.complex.now.triangles.now r.1 a.tri.0 r.5 hs.result.now hs.ensures in
-    (r.4, f.1)
+    (r.4, (first_holder a.complex.now r.1 a.tri.0 r.5 hs.result.now hs.ensures).1)
 
 pub pent_edge_indices-own-requires : goal.pent_edge_indices-own-requires
 pent_edge_indices-own-requires c =
     let a = c.args in
     let r = c.requires in
     let hs = c.pents_of_triangle-holders in
-    let f = first_holder a.complex.now.counts.pentachorons a.complex.now.counts.triangles a.complex.now.pents.now a.complex.now.triangles.now r.1 a.tri.0 r.5 hs.result.now hs.ensures in
-    (r.3, f.1)
+    (r.3, (first_holder a.complex.now r.1 a.tri.0 r.5 hs.result.now hs.ensures).1)
 
 pub local_index-requires : goal.local_index-requires
 local_index-requires c =
     let a = c.args in
     let r = c.requires in
     let hs = c.pents_of_triangle-holders in
-    let f = first_holder a.complex.now.counts.pentachorons a.complex.now.counts.triangles a.complex.now.pents.now a.complex.now.triangles.now r.1 a.tri.0 r.5 hs.result.now hs.ensures in
-    own-triangle a.complex.now.counts.pentachorons a.complex.now.counts.triangles a.complex.now.pents.now a.complex.now.triangles.now r.0 r.4.room (get_or hs.result.now 0 0) a.tri.0 f.1 r.5 c.pent_tri_indices-tris.result.now c.pent_tri_indices-tris.ensures
-    f.2
+    let f = first_holder a.complex.now r.1 a.tri.0 r.5 hs.result.now hs.ensures in
+    own-triangle a.complex.now r.0 r.4.room _ a.tri.0 f.1 r.5 _ c.pent_tri_indices-tris.ensures f.2
 
 pub edges_at-requires : goal.edges_at-requires
 edges_at-requires c =
     let a = c.args in
     let r = c.requires in
     let hs = c.pents_of_triangle-holders in
-    let f = first_holder a.complex.now.counts.pentachorons a.complex.now.counts.triangles a.complex.now.pents.now a.complex.now.triangles.now r.1 a.tri.0 r.5 hs.result.now hs.ensures in
+    let f = first_holder a.complex.now r.1 a.tri.0 r.5 hs.result.now hs.ensures in
+    let t = c.pent_tri_indices-tris.ensures in
     let l = c.local_index in
-    let e = c.pent_edge_indices-own in (
-      ten-own a.complex.now.counts.pentachorons a.complex.now.counts.triangles a.complex.now.pents.now a.complex.now.triangles.now r.0 r.4.room (get_or hs.result.now 0 0) a.tri.0 f.1 r.5 c.pent_tri_indices-tris.result.now c.pent_tri_indices-tris.ensures
-          (rows 2 a.complex.now.counts.edges a.complex.now.edges.now) e.result.now e.ensures,
-      below-ten a.complex.now.counts.pentachorons a.complex.now.counts.triangles a.complex.now.pents.now a.complex.now.triangles.now r.0 r.4.room (get_or hs.result.now 0 0) a.tri.0 f.1 r.5 c.pent_tri_indices-tris.result.now c.pent_tri_indices-tris.ensures
-          l.result l.ensures.0 l.ensures.1,
-    )
+    (ten-own a.complex.now r.0 r.4.room _ a.tri.0 f.1 r.5 _ t (edges_of a.complex.now) _ c.pent_edge_indices-own.ensures, below-ten a.complex.now r.0 r.4.room _ a.tri.0 f.1 r.5 _ t l.result l.ensures.0 l.ensures.1)
 
 pub returns : goal.returns
 returns c =
     let a = c.args in
     let r = c.requires in
     let hs = c.pents_of_triangle-holders in
-    let f = first_holder a.complex.now.counts.pentachorons a.complex.now.counts.triangles a.complex.now.pents.now a.complex.now.triangles.now r.1 a.tri.0 r.5 hs.result.now hs.ensures in
+    let f = first_holder a.complex.now r.1 a.tri.0 r.5 hs.result.now hs.ensures in
     let l = c.local_index in
-    let e = c.pent_edge_indices-own in
     c.edges_at.ensures
-    ∙ edges-own a.complex.now.counts.pentachorons a.complex.now.counts.triangles a.complex.now.pents.now a.complex.now.triangles.now r.0 r.4.room (get_or hs.result.now 0 0) a.tri.0 f.1 r.5 c.pent_tri_indices-tris.result.now c.pent_tri_indices-tris.ensures
-    l.result l.ensures.0 l.ensures.1 (rows 2 a.complex.now.counts.edges a.complex.now.edges.now) e.result.now e.ensures
+    ∙ edges-own a.complex.now r.0 r.4.room _ a.tri.0 f.1 r.5 _ c.pent_tri_indices-tris.ensures l.result l.ensures.0 l.ensures.1 (edges_of a.complex.now) _ c.pent_edge_indices-own.ensures

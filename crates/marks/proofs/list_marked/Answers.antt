@@ -1,56 +1,40 @@
 -- `marks::list_marked` meets its contract. Assumes nothing.
+use Rattle.std.proofs.Common.{get_or-take}
+use Prim.Native.Nat.{◌<◌}
+use mathlib.Core.Bool.{false}
 use mathlib.Core.List.{[], ◌∷◌}
-use mathlib.Core.Path.{◌≡◌, refl, sym, ap, ◌∙◌}
+use mathlib.Core.Path.{◌≡◌, sym, ap, ◌∙◌}
 use native.Mathlib.Omega.{arith}
-use lib.ListN.{length, length-append, length-set}
-use borrow.Author.Tests.{eq-eqb, ne_eqb}
-use Rattle.lists.specs.Lists.{keep, upto}
-use Rattle.lists.specs.Rows.{over}
+use lib.ListN.{length, length-append, get_or, take}
+use lib.Seq.{length-take-le}
 use Rattle.lists.proofs.Rows.{front-turn}
 use Rattle.marks.specs.Marks.{marked_below}
-use Rattle.marks.proofs.Marking.{marked-here, marked-past, marked-room, marked-most}
-use Rattle.marks.proofs.list_marked.Goals.{then-marks-t-eq1, else-marks-t-eq1}
+use Rattle.marks.proofs.Marking.{marked-here, marked-past, marked-room}
+use Rattle.marks.proofs.list_marked.Goals.{then-mark, else-mark}
 use Rattle.marks.proofs.list_marked.Goals as goal
 
-pub loop-t-init : goal.loop-t-init
-unfolding marked_below upto keep
-loop-t-init c = (omega arith, refl, refl, refl)
-
-pub offset_bounds-list-count : goal.offset_bounds-list-count
-offset_bounds-list-count c = omega (arith, marked-most c.args.marks.now c.loop-t.t, c.loop-t.invariant.1, c.requires.1)
-
 pub bounds-list-count : goal.bounds-list-count
-bounds-list-count c = omega (arith, marked-room c.args.marks.now c.loop-t.t c.args.n c.loop-t-test.true (eq-eqb _ _ c.if-marks-t-eq1.true), c.loop-t.invariant.1, c.loop-t.invariant.2, c.requires.2)
-
-pub overflow_add-count : goal.overflow_add-count
-overflow_add-count c = omega (arith, marked-most c.args.marks.now c.loop-t.t, c.loop-t.invariant.1, c.ranges.n)
+bounds-list-count c =
+    let M = c.args.marks.now in
+    let l = c.loop-t in
+    let h : l.t < c.args.n = omega (arith, length-take-le c.args.n M c.requires.0) in
+    omega (arith, marked-room M l.t c.args.n h (sym (get_or-take c.args.n M l.t false h) ∙ c.if-mark.true))
 
 pub loop-t-preserved : goal.loop-t-preserved
 loop-t-preserved c =
     let a = c.args in
     let M = a.marks.now in
     let l = c.loop-t in
-    elim c.if-marks-t-eq1.branch [
-      | then-marks-t-eq1 w ↦
-          let here = marked-here M l.t (eq-eqb _ _ w.if-marks-t-eq1.true) in
-          let room = marked-room M l.t a.n c.loop-t-test.true (eq-eqb _ _ w.if-marks-t-eq1.true) in (
-            omega arith,
-            omega (arith, w.count-is, l.invariant.1, ap length here, length-append (marked_below l.t M) (l.t ∷ [])),
-            rw w.list-is (length-set l.list l.count l.t ∙ l.invariant.2),
-            rw (w.list-is, w.count-is, here) (front-turn (marked_below l.t M) l.t a.list.now l.list l.count (sym l.invariant.1) (omega (arith, room, l.invariant.1, c.requires.2)) l.invariant.2 l.invariant.3),
+    let h : l.t < a.n = omega (arith, length-take-le a.n M c.requires.0) in
+    let read : get_or (take a.n M) l.t false ≡ get_or M l.t false = get_or-take a.n M l.t false h in
+    elim c.if-mark.branch [
+      | then-mark w ↦
+          let e = sym read ∙ w.if-mark.true in
+          let here = marked-here M l.t e in (
+            omega (arith, w.count-is, l.invariant.0, ap length here, length-append (marked_below l.t M) (l.t ∷ [])),
+            rw (w.list-is, w.count-is, here) (front-turn (marked_below l.t M) l.t a.list.now l.list l.count (sym l.invariant.0) (omega (arith, marked-room M l.t a.n h e, l.invariant.0, c.requires.2)) l.auto.list l.invariant.1),
           )
-      | else-marks-t-eq1 w ↦
-          let past = marked-past M l.t (ne_eqb _ _ w.if-marks-t-eq1.false) in
-          (omega arith, w.count-is ∙ l.invariant.1 ∙ ap length (sym past), rw w.list-is l.invariant.2, rw (w.list-is, w.count-is, past) l.invariant.3)
+      | else-mark w ↦
+          let past = marked-past M l.t (sym read ∙ w.if-mark.false) in
+          (w.count-is ∙ l.invariant.0 ∙ ap length (sym past), rw (w.list-is, w.count-is, past) l.invariant.1)
     ]
-
-pub shape_of-list : goal.shape_of-list
-shape_of-list c = c.loop-t.invariant.2
-
-pub returns : goal.returns
-unfolding over
-returns c =
-    let l = c.loop-t in
-    let a = c.args in
-    let e : l.t ≡ a.n = omega arith in
-    l.invariant.3 ∙ rw (l.invariant.1, e) refl

@@ -1,5 +1,4 @@
 -- `marks::list_marked` meets its contract. Assumes nothing.
-use Prim.Native.Nat.{◌-◌, ◌≤◌}
 use mathlib.Core.List.{◌++◌}
 use mathlib.Core.Path.{◌≡◌}
 use lib.ListN.{length, drop}
@@ -7,7 +6,4 @@ use Rattle.marks.specs.Marks.{marked_below}
 use Rattle.marks.proofs.list_marked.Given as goal
 
 abbrev pub invariant-loop-t : goal.invariant-loop-t
-invariant-loop-t l = (l.t ≤ l.n) × (l.count ≡ length (marked_below l.t l.marks)) × (length l.list ≡ length l.initial.list) × (l.list ≡ marked_below l.t l.marks ++ drop l.count l.initial.list)
-
-abbrev pub decreases-loop-t : goal.decreases-loop-t
-decreases-loop-t l = l.n - l.t
+invariant-loop-t l = (l.count ≡ length (marked_below l.t l.marks)) × (l.list ≡ marked_below l.t l.marks ++ drop l.count l.initial.list)

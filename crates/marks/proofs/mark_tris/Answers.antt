@@ -1,48 +1,16 @@
 -- `marks::mark_tris` meets its contract. Assumes nothing.
-use mathlib.Core.List.{[]}
-use mathlib.Core.Path.{refl, sym, ap, ◌∙◌}
-use native.Mathlib.Omega.{arith}
-use lib.ListN.{length, get_or, take}
-use lib.Seq.{take_all}
-use Rattle.lists.specs.Lists.{gather}
 use Rattle.lists.proofs.Rows.{length-rows}
-use Rattle.complex.specs.Lent.{edges_of, triangles_of}
-use Rattle.marks.specs.Marks.{met, marked}
-use Rattle.marks.proofs.Marking.{marked_append, met_next, holding-below}
+use Rattle.complex.specs.Lent.{triangles_of, edges_of}
 use Rattle.marks.proofs.mark_tris.Goals as goal
 
-pub loop-k-init : goal.loop-k-init
-unfolding marked met gather
-loop-k-init c = (omega arith, refl, refl)
-
-pub tris_of_edge-own-requires : goal.tris_of_edge-own-requires
-tris_of_edge-own-requires c = (c.requires.0, c.requires.1 c.loop-k.k c.loop-k-test.true)
-
-pub mark_all-requires : goal.mark_all-requires
-mark_all-requires c =
-    let a = c.args in
-    let l = c.loop-k in
-    holding-below (triangles_of a.complex.now) (get_or (edges_of a.complex.now) (get_or a.free_edges.now l.k 0) []) c.tris_of_edge-own.result.now c.tris_of_edge-own.ensures (length l.marks) (omega (arith, length-rows 3 a.complex.now.counts.triangles a.complex.now.triangles.now, c.requires.2, l.invariant.1))
-
-pub loop-k-preserved : goal.loop-k-preserved
-loop-k-preserved c =
-    let a = c.args in
-    let l = c.loop-k in
-    let f = c.mark_all in
-    let R = triangles_of a.complex.now in
-    let E = edges_of a.complex.now in (
-      omega arith,
-      f.auto.marks ∙ l.invariant.1,
-      f.ensures
-          ∙ rw (c.tris_of_edge-own.ensures, l.invariant.2) (sym (marked_append (met R E (take l.k a.free_edges.now)) _ a.marks.now))
-          ∙ ap (λ xs. marked xs a.marks.now) (sym (met_next R E a.free_edges.now l.k (omega arith))),
-    )
-
-pub shape_of-marks : goal.shape_of-marks
-shape_of-marks c = c.loop-k.invariant.1
+pub mark_met-requires : goal.mark_met-requires
+mark_met-requires c =
+    let r = c.requires in
+    let x = c.args.complex.now in
+    (triangles_of x, edges_of x, record { holders = r.0; below = rw length-rows r.1; marks = rw length-rows r.2 })
 
 pub returns : goal.returns
 returns c =
-    let l = c.loop-k in
-    let a = c.args in
-    l.invariant.2 ∙ ap (λ xs. marked (met (triangles_of a.complex.now) (edges_of a.complex.now) xs) a.marks.now) (take_all l.k a.free_edges.now (omega arith))
+    let r = c.requires in
+    let x = c.args.complex.now in
+    c.mark_met.ensures (triangles_of x) (edges_of x) (record { holders = r.0; below = rw length-rows r.1; marks = rw length-rows r.2 })

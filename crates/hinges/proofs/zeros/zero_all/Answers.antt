@@ -1,34 +1,14 @@
 -- `hinges::zeros::zero_all` meets its contract. Assumes nothing.
-use mathlib.Core.Path.{◌≡◌, refl, ap, ◌∙◌}
-use native.Mathlib.Numerals.{add-one}
-use native.Mathlib.Omega.{arith}
-use lib.ListN.{length-set}
+use Rattle.std.proofs.Common.{◌≡◌, replicate, length, take, rules}
+use lib.ListN.{length-replicate}
+use lib.Seq.{length-take-le}
 use Rattle.floats.specs.Ops.{zero}
-use Rattle.lists.specs.Lists.{upto}
 use Rattle.lists.specs.Rows.{over}
-use Rattle.lists.proofs.Elements.{map-const}
-use Rattle.lists.proofs.Rows.{map-turn, map-done}
 use Rattle.hinges.proofs.zeros.zero_all.Goals as goal
 
-pub loop-k-init : goal.loop-k-init
-unfolding upto
-loop-k-init c = (omega arith, refl, refl)
-
-pub loop-k-preserved : goal.loop-k-preserved
-loop-k-preserved c =
-    let a = c.args in
-    let l = c.loop-k in (
-      omega arith,
-      length-set l.list l.k zero ∙ l.invariant.1,
-      rw (add-one l.k) (map-turn (λ i. zero) a.list.now l.list l.k (omega arith) l.invariant.1 l.invariant.2),
-    )
-
-pub shape_of-list : goal.shape_of-list
-shape_of-list c = c.loop-k.invariant.1
-
 pub returns : goal.returns
+unfolding over
 returns c =
     let a = c.args in
-    let l = c.loop-k in
-    let e : l.k ≡ a.n = omega arith in
-    map-done (λ i. zero) a.list.now l.list a.n (rw e at l.invariant.2) ∙ ap (λ r. over r a.list.now) (map-const zero a.n)
+    let e : c.fill.new.self ≡ replicate (length (take a.n a.list.now)) zero = search rules in
+    rw (e, length-take-le a.n a.list.now c.requires, length-replicate)

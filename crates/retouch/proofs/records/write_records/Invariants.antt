@@ -1,5 +1,4 @@
 -- `retouch::records::write_records` meets its contract. Assumes nothing.
-use Prim.Native.Nat.{◌-◌, ◌≤◌}
 use mathlib.Core.Path.{◌≡◌}
 use lib.ListN.{length, take}
 use Rattle.lists.specs.Writes.{writes}
@@ -7,10 +6,7 @@ use Rattle.lorentzian.specs.Dihedral.{kind_number}
 use Rattle.hinges.specs.Hinges.{hinges, hinge_in, faces_of}
 use Rattle.retouch.proofs.records.write_records.Given as goal
 
-abbrev pub invariant-loop-k : goal.invariant-loop-k
-invariant-loop-k l = (l.k ≤ l.count) × (length l.deficits ≡ length l.initial.deficits) × (length l.kinds ≡ length l.initial.kinds)
-    × (l.deficits ≡ writes (λ t. (hinge_in (hinges (faces_of l.complex) l.sq_lengths) t).deficit) (take l.k l.tris) l.initial.deficits)
-    × (l.kinds ≡ writes (λ t. kind_number (hinge_in (hinges (faces_of l.complex) l.sq_lengths) t).kind) (take l.k l.tris) l.initial.kinds)
-
-abbrev pub decreases-loop-k : goal.decreases-loop-k
-decreases-loop-k l = l.count - l.k
+abbrev pub invariant-loop-tri : goal.invariant-loop-tri
+invariant-loop-tri l = (length l.deficits ≡ length l.initial.deficits) × (length l.kinds ≡ length l.initial.kinds)
+    × (l.deficits ≡ writes (λ t. (hinge_in (hinges (faces_of l.complex) l.sq_lengths) t).deficit) (take l.tri-index l.tris) l.initial.deficits)
+    × (l.kinds ≡ writes (λ t. kind_number (hinge_in (hinges (faces_of l.complex) l.sq_lengths) t).kind) (take l.tri-index l.tris) l.initial.kinds)

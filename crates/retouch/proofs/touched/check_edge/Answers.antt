@@ -4,10 +4,10 @@ use borrow.Author.Tests.{lt-ltb, le-ltb}
 use Rattle.retouch.specs.Retouch.{edge_check_of}
 use Rattle.retouch.proofs.touched.check_edge.Goals as goal
 
-pub returns-then-e-counts : goal.returns-then-e-counts
+pub returns-then-edge-counts : goal.returns-then-edge-counts
 unfolding edge_check_of
-returns-then-e-counts c = rw (lt-ltb _ _ c.if-e-counts.true) refl
+returns-then-edge-counts c = rw (le-ltb _ _ c.if-edge-counts.true) refl
 
 pub returns : goal.returns
 unfolding edge_check_of
-returns c = rw (le-ltb _ _ c.if-e-counts.false) refl
+returns c = rw (lt-ltb _ _ c.if-edge-counts.false) refl
