@@ -4,19 +4,27 @@
 mod changes;
 mod names;
 
-ghost use Rattle.std.specs.Prelude.{◌≡◌, map, length};
+ghost use Rattle.std.specs.Prelude.{◌≡◌, ◌≤◌, map, length, take};
 ghost use Rattle.lists.specs.Lists.{upto};
 ghost use Rattle.complex.specs.Lent.{lists_of, lists_in};
 ghost use Rattle.replay.specs.Filled.{word_of, pattern_at};
 ghost use Rattle.replay_lists.specs.Owned.{zeros_of, lent, put_in, with_room, all_of, lent_of, list_of, with_list};
 
 pub use changes::{Change, Target, with_count};
-pub use names::{ListName, NoList};
-
 use complex::{AdjacencyList, Complex, Counts, ListsMut};
+pub use names::{ListName, NoList};
 use replay::{fill_pattern, first, put};
 
 // ---- a list
+
+// Fills the first n places of a list with the pattern that they have before a call.
+fn fill_first(list: &mut [u32], n: usize)
+    requires { n ≤ length list.old }
+    ensures len { length list.new ≡ length list.old }
+    ensures table { take n list.new ≡ map (λ i. word_of (pattern_at i)) (upto n) }
+{
+    fill_pattern(&mut list[..n]);
+}
 
 // A list of N numbers, of which as many are lent as there is room for, all where that is more.
 #[derive(Clone, Copy)]
@@ -43,7 +51,7 @@ impl<const N: usize> LentList<N> {
     {
         let mut list = LentList::zeros(room);
         let n = room.min(N);
-        fill_pattern(&mut list.numbers[..n]);
+        fill_first(&mut list.numbers, n);
         list
     }
 
@@ -54,7 +62,7 @@ impl<const N: usize> LentList<N> {
         first(&self.numbers, self.room)
     }
 
-    // What is lent of it, to be written.
+    // What is lent of it, to be written. A caller learns nothing of the list afterwards.
     pub fn lend_mut(&mut self) -> &mut [u32]
         ensures { result.now ≡ lent self.old }
     {
@@ -132,7 +140,7 @@ impl<const N: usize> Lists<N> {
         }
     }
 
-    // These lists, to be written.
+    // These lists, to be written. A caller learns nothing of them afterwards.
     pub fn lend_mut(&mut self) -> ListsMut<'_>
         ensures { lists_in result ≡ lent_of self.old }
     {
