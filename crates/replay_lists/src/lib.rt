@@ -1,0 +1,166 @@
+// The ten lists of a complex as the replay programs own and lend them, and the changes that a stored line makes.
+#![tactic(auto)]
+
+mod changes;
+mod names;
+
+ghost use Rattle.std.specs.Prelude.{◌≡◌, replicate, set};
+ghost use Rattle.complex.specs.Lent.{lists_of, lists_in};
+ghost use Rattle.replay_lists.specs.Owned.{lent, lent_of, list_of};
+
+pub use changes::{Change, Target, with_count};
+pub use names::{ListName, NoList};
+
+use complex::{AdjacencyList, Complex, Counts, ListsMut};
+use replay::{fill_pattern, first, put};
+
+// ---- a list
+
+// A list of N numbers, of which as many are lent as there is room for, all where that is more.
+#[derive(Clone, Copy)]
+pub struct LentList<const N: usize> {
+    pub numbers: [u32; N],
+    pub room: usize,
+}
+
+impl<const N: usize> LentList<N> {
+    // A list of zeros.
+    pub fn zeros(room: usize) -> Self
+        ensures { result ≡ record { numbers = replicate N 0; room = room } }
+    {
+        LentList {
+            numbers: [0; N],
+            room,
+        }
+    }
+
+    // A list whose lent places have the pattern that they have before a call.
+    pub fn patterned(room: usize) -> Self
+    {
+        let mut list = LentList::zeros(room);
+        fill_pattern(list.lend_mut());
+        list
+    }
+
+    // What is lent of it.
+    pub fn lend(&self) -> &[u32]
+        ensures { result.now ≡ lent self.now }
+    {
+        first(&self.numbers, self.room)
+    }
+
+    // What is lent of it, to be written.
+    pub fn lend_mut(&mut self) -> &mut [u32]
+        ensures { result.now ≡ lent self.old }
+    {
+        let n = self.room.min(N);
+        &mut self.numbers[..n]
+    }
+}
+
+// ---- the ten lists
+
+// The ten lists of a complex.
+#[derive(Clone, Copy)]
+pub struct Lists<const N: usize> {
+    pub pents: LentList<N>,
+    pub edges: LentList<N>,
+    pub triangles: LentList<N>,
+    pub tets: LentList<N>,
+    pub tri_to_pents_items: LentList<N>,
+    pub tri_to_pents_starts: LentList<N>,
+    pub edge_to_tris_items: LentList<N>,
+    pub edge_to_tris_starts: LentList<N>,
+    pub edge_to_pents_items: LentList<N>,
+    pub edge_to_pents_starts: LentList<N>,
+}
+
+impl<const N: usize> Lists<N> {
+    // Lists of zeros, lent whole.
+    pub fn zeros() -> Self {
+        Lists {
+            pents: LentList::zeros(N),
+            edges: LentList::zeros(N),
+            triangles: LentList::zeros(N),
+            tets: LentList::zeros(N),
+            tri_to_pents_items: LentList::zeros(N),
+            tri_to_pents_starts: LentList::zeros(N),
+            edge_to_tris_items: LentList::zeros(N),
+            edge_to_tris_starts: LentList::zeros(N),
+            edge_to_pents_items: LentList::zeros(N),
+            edge_to_pents_starts: LentList::zeros(N),
+        }
+    }
+
+    // The complex of these lists.
+    pub fn lend(&self, counts: Counts) -> Complex<'_>
+        ensures counts { result.counts ≡ counts }
+        ensures lists { lists_of result ≡ lent_of self.now }
+    {
+        Complex {
+            counts,
+            pents: self.pents.lend(),
+            edges: self.edges.lend(),
+            triangles: self.triangles.lend(),
+            tets: self.tets.lend(),
+            tri_to_pents: AdjacencyList {
+                items: self.tri_to_pents_items.lend(),
+                starts: self.tri_to_pents_starts.lend(),
+            },
+            edge_to_tris: AdjacencyList {
+                items: self.edge_to_tris_items.lend(),
+                starts: self.edge_to_tris_starts.lend(),
+            },
+            edge_to_pents: AdjacencyList {
+                items: self.edge_to_pents_items.lend(),
+                starts: self.edge_to_pents_starts.lend(),
+            },
+        }
+    }
+
+    // These lists, to be written.
+    pub fn lend_mut(&mut self) -> ListsMut<'_>
+        ensures { lists_in result ≡ lent_of self.old }
+    {
+        ListsMut {
+            pents: self.pents.lend_mut(),
+            edges: self.edges.lend_mut(),
+            triangles: self.triangles.lend_mut(),
+            tets: self.tets.lend_mut(),
+            tri_to_pents_items: self.tri_to_pents_items.lend_mut(),
+            tri_to_pents_starts: self.tri_to_pents_starts.lend_mut(),
+            edge_to_tris_items: self.edge_to_tris_items.lend_mut(),
+            edge_to_tris_starts: self.edge_to_tris_starts.lend_mut(),
+            edge_to_pents_items: self.edge_to_pents_items.lend_mut(),
+            edge_to_pents_starts: self.edge_to_pents_starts.lend_mut(),
+        }
+    }
+
+    // The list of a name.
+    pub fn list_mut(&mut self, name: ListName) -> &mut LentList<N>
+        ensures { result.now ≡ list_of name self.old }
+    {
+        match name {
+            ListName::Pents => &mut self.pents,
+            ListName::Edges => &mut self.edges,
+            ListName::Triangles => &mut self.triangles,
+            ListName::Tets => &mut self.tets,
+            ListName::TriToPentsItems => &mut self.tri_to_pents_items,
+            ListName::TriToPentsStarts => &mut self.tri_to_pents_starts,
+            ListName::EdgeToTrisItems => &mut self.edge_to_tris_items,
+            ListName::EdgeToTrisStarts => &mut self.edge_to_tris_starts,
+            ListName::EdgeToPentsItems => &mut self.edge_to_pents_items,
+            ListName::EdgeToPentsStarts => &mut self.edge_to_pents_starts,
+        }
+    }
+
+    // Puts a number at a place of a list, where it has that place.
+    pub fn put(&mut self, name: ListName, place: usize, n: u32) {
+        put(&mut self.list_mut(name).numbers, place, n);
+    }
+
+    // Gives a list another room.
+    pub fn set_room(&mut self, name: ListName, room: usize) {
+        self.list_mut(name).room = room;
+    }
+}
