@@ -4,6 +4,7 @@ ghost use Rattle.lists.specs.Rows.{flat, over};
 ghost use Rattle.foliation.specs.Lattice.{vertex_count, is_lawful, orders, stepped, paths, lattice_pents};
 ghost use Rattle.foliation.specs.Parts.{axis_number, Near, path_at};
 
+use self::Axis::{T, X, Y, Z};
 use crate::Lattice;
 use crate::coords::{Coords, n_total, vertex_coords_4d, vidx};
 use complex::sorted;
@@ -17,8 +18,6 @@ enum Axis {
     Y,
     Z,
 }
-
-use Axis::{T, X, Y, Z};
 
 // The orders of the axes t, x, y, z, as `permute` yields them.
 const ORDERS: [[Axis; 4]; 24] = [
@@ -64,10 +63,10 @@ fn step(at: Coords, axis: Axis) -> Coords
 {
     let mut to = at;
     match axis {
-        Axis::T => to.t += 1,
-        Axis::X => to.x += 1,
-        Axis::Y => to.y += 1,
-        Axis::Z => to.z += 1,
+        T => to.t += 1,
+        X => to.x += 1,
+        Y => to.y += 1,
+        Z => to.z += 1,
     }
     to
 }
