@@ -10,9 +10,9 @@ use Rattle.hessian.specs.Parts.{diagonal_at, first_at}
 use Rattle.hessian.proofs.HessianLoops.{if-marked, if-not-marked, diagonal-event, first-event}
 use Rattle.hessian.proofs.matrix.add_marked_tri.Goals as goal
 
-pub returns-then-mark-ne1 : goal.returns-then-mark-ne1
+pub returns-then-not-mark : goal.returns-then-not-mark
 unfolding scatter
-returns-then-mark-ne1 c = let m = c.args.mark in (rw (if-not-marked m _ c.if-mark-ne1.true) refl, rw (if-not-marked m _ c.if-mark-ne1.true) refl)
+returns-then-not-mark c = let m = c.args.mark in (rw (if-not-marked m _ c.if-not-mark.true) refl, rw (if-not-marked m _ c.if-not-mark.true) refl)
 
 pub tri_sq_lengths-s-requires : goal.tri_sq_lengths-s-requires
 tri_sq_lengths-s-requires c =
@@ -36,7 +36,7 @@ returns c =
     let f = c.add_first in
     let ls = a.sq_lengths.now in
     let free = a.free_edges.now in
-    let one = c.if-mark-ne1.false in (
+    let one = c.if-not-mark.false in (
       rw (if-marked a.mark (diagonal_at F ls a.tri.0) one, ← diagonal-event F ls free (edge_list o.result) p.result s.result a.tri.0 p.ensures s.ensures h.result o.ensures h.ensures) f.ensures.0,
       rw (if-marked a.mark (first_at F ls free a.tri.0) one, ← first-event F ls free (edge_list o.result) p.result s.result a.tri.0 p.ensures s.ensures h.result o.ensures h.ensures) f.ensures.1,
     )
