@@ -20,6 +20,9 @@ use replay_lists::{Change, LentList, Lists, Target};
 use std::fmt::Display;
 use std::io::Result;
 
+// The longest room that 1944 pentachorons ask for.
+const ROOM: usize = 58320;
+
 // ---- reading
 
 // The calls of a line.
@@ -158,8 +161,19 @@ fn print_sq_lengths(rt: &impl Print, line: Line<'_>, complex: &Complex<'_>) -> R
 
 // Both answers to a line `f` whose pentachorons are given, if they are built.
 fn print_built(rt: &impl Print, line: Line<'_>, given: &[u32], change: Change) -> Result<()> {
-    // The longest room that 1944 pentachorons ask for.
-    let mut lists = Lists::<58320>::zeros();
+    // Not `Lists::zeros()`: a call that answers lists of this size takes their stack four times over.
+    let mut lists = Lists::<ROOM> {
+        pents: LentList::zeros(ROOM),
+        edges: LentList::zeros(ROOM),
+        triangles: LentList::zeros(ROOM),
+        tets: LentList::zeros(ROOM),
+        tri_to_pents_items: LentList::zeros(ROOM),
+        tri_to_pents_starts: LentList::zeros(ROOM),
+        edge_to_tris_items: LentList::zeros(ROOM),
+        edge_to_tris_starts: LentList::zeros(ROOM),
+        edge_to_pents_items: LentList::zeros(ROOM),
+        edge_to_pents_starts: LentList::zeros(ROOM),
+    };
     let built = builder::from_pentachorons(line.size(4), given, &mut lists.lend_mut());
     change.make(&mut lists);
     if let Ok(counts) = built {
@@ -173,7 +187,7 @@ fn print_built(rt: &impl Print, line: Line<'_>, given: &[u32], change: Change) -
 // Both answers to a line `f`.
 fn print_edges(rt: &impl Print, line: Line<'_>) -> Result<()> {
     let change = Change::from(line.number(8));
-    let mut given = [0; 58320];
+    let mut given = [0; ROOM];
     let listed = foliation::foliated_hypercubic(lattice_at(line, 2), &mut given);
     if change.target == Target::Further {
         put(&mut given, change.place, change.n);

@@ -6,7 +6,9 @@ use Rattle.replay_lists.specs.declared.names.NoList.{NoList}
 use Rattle.replay_lists.specs.declared.changes.Target.{Target}
 use Rattle.replay_lists.specs.declared.changes.Target.TheVariants as target
 use Rattle.replay_lists.specs.declared.changes.Change.{Change}
+use Rattle.replay_lists.specs.declared.Lists.{Lists}
 use Rattle.replay_lists.specs.Names.{name_of}
+use Rattle.replay_lists.specs.Owned.{list_of, with_list, put_in}
 
 -- what is changed where a list has a name, or none
 unfoldable pub target_named : Result ListName NoList → Target
@@ -38,3 +40,12 @@ counts_at t place n c = c
 -- the counts after a change
 abbrev pub counts_after : Change → Counts → Counts
 counts_after x c = counts_at x.target x.place x.n c
+
+-- the ten lists after a change of that target
+unfoldable pub made_at : {N : ℕ} → Target → ℕ → ℕ → Lists N → Lists N
+made_at (target.List name) place n x = with_list name (put_in (list_of name x) place n) x
+made_at t place n x = x
+
+-- the ten lists after a change
+abbrev pub lists_after : {N : ℕ} → Change → Lists N → Lists N
+lists_after c x = made_at c.target c.place c.n x

@@ -6,9 +6,28 @@ use Rattle.replay_lists.specs.declared.Lists.{Lists}
 use Rattle.replay_lists.specs.declared.names.ListName.{ListName}
 use Rattle.replay_lists.specs.declared.names.ListName.TheVariants.{Pents, Edges, Triangles, Tets, TriToPentsItems, TriToPentsStarts, EdgeToTrisItems, EdgeToTrisStarts, EdgeToPentsItems, EdgeToPentsStarts}
 
+-- a list of N zeros
+abbrev pub zeros_of : (N : ℕ) → ℕ → LentList N
+zeros_of N room = record { numbers = replicate N 0; room = room }
+
 -- what is lent of a list
 abbrev pub lent : {N : ℕ} → LentList N → List ℕ
 lent x = take x.room x.numbers
+
+-- the same list ten times
+abbrev pub all_of : {N : ℕ} → LentList N → Lists N
+all_of list =
+    record {
+        pents = list;
+        edges = list;
+        triangles = list;
+        tets = list;
+        tri_to_pents_items = list;
+        tri_to_pents_starts = list;
+        edge_to_tris_items = list;
+        edge_to_tris_starts = list;
+        edge_to_pents_items = list;
+        edge_to_pents_starts = list }
 
 -- what is lent of the ten
 abbrev pub lent_of : {N : ℕ} → Lists N → built.Lists
@@ -45,3 +64,7 @@ with_list EdgeToPentsStarts list x = record x { edge_to_pents_starts = list }
 -- a list with a number at a place, where it has that place
 abbrev pub put_in : {N : ℕ} → LentList N → ℕ → ℕ → LentList N
 put_in list place n = record list { numbers = set list.numbers place n }
+
+-- a list with another room
+abbrev pub with_room : {N : ℕ} → LentList N → ℕ → LentList N
+with_room list room = record list { room = room }

@@ -1,6 +1,6 @@
 // What a stored line changes of a complex before or after a call.
 ghost use Rattle.std.specs.Prelude.{◌≡◌};
-ghost use Rattle.replay_lists.specs.Changes.{target_of, change_of, with_count, counts_after};
+ghost use Rattle.replay_lists.specs.Changes.{target_of, change_of, with_count, counts_after, lists_after};
 
 use crate::{ListName, Lists};
 use complex::Counts;
@@ -20,6 +20,7 @@ pub enum Target {
 impl From<u64> for Target {
     ghost from_gives = { λ n target. target ≡ target_of n };
 
+    #[tactic(auto, unfolding(crate::specs::Changes::target_of, crate::specs::Changes::target_named))]
     fn from(n: u64) -> Target {
         match n {
             10 => Target::Counts,
@@ -41,6 +42,7 @@ pub struct Change {
 impl From<u64> for Change {
     ghost from_gives = { λ n change. change ≡ change_of n };
 
+    #[tactic(auto, unfolding(crate::specs::Changes::change_of))]
     fn from(n: u64) -> Change {
         Change {
             target: Target::from(n / 0x1_0000_0000_0000),
@@ -51,6 +53,7 @@ impl From<u64> for Change {
 }
 
 // The counts with another one at a place.
+#[tactic(auto, unfolding(crate::specs::Changes::with_count))]
 pub fn with_count(counts: Counts, place: usize, n: usize) -> Counts
     ensures { result ≡ with_count counts place n }
 {
@@ -66,6 +69,7 @@ pub fn with_count(counts: Counts, place: usize, n: usize) -> Counts
 
 impl Change {
     // The counts after it.
+    #[tactic(auto, unfolding(crate::specs::Changes::counts_at))]
     pub fn counts(self, before: Counts) -> Counts
         ensures { result ≡ counts_after self before }
     {
@@ -76,7 +80,10 @@ impl Change {
     }
 
     // Makes it to the list that it is of, if it is of one.
-    pub fn make<const N: usize>(self, lists: &mut Lists<N>) {
+    #[tactic(auto, unfolding(crate::specs::Changes::made_at))]
+    pub fn make<const N: usize>(self, lists: &mut Lists<N>)
+        ensures { lists.new ≡ lists_after self lists.old }
+    {
         if let Target::List(name) = self.target {
             lists.put(name, self.place, self.n);
         }

@@ -4,9 +4,11 @@
 mod changes;
 mod names;
 
-ghost use Rattle.std.specs.Prelude.{◌≡◌, replicate, set};
+ghost use Rattle.std.specs.Prelude.{◌≡◌, map, length};
+ghost use Rattle.lists.specs.Lists.{upto};
 ghost use Rattle.complex.specs.Lent.{lists_of, lists_in};
-ghost use Rattle.replay_lists.specs.Owned.{lent, lent_of, list_of};
+ghost use Rattle.replay.specs.Filled.{word_of, pattern_at};
+ghost use Rattle.replay_lists.specs.Owned.{zeros_of, lent, put_in, with_room, all_of, lent_of, list_of, with_list};
 
 pub use changes::{Change, Target, with_count};
 pub use names::{ListName, NoList};
@@ -26,7 +28,7 @@ pub struct LentList<const N: usize> {
 impl<const N: usize> LentList<N> {
     // A list of zeros.
     pub fn zeros(room: usize) -> Self
-        ensures { result ≡ record { numbers = replicate N 0; room = room } }
+        ensures { result ≡ zeros_of N room }
     {
         LentList {
             numbers: [0; N],
@@ -36,9 +38,12 @@ impl<const N: usize> LentList<N> {
 
     // A list whose lent places have the pattern that they have before a call.
     pub fn patterned(room: usize) -> Self
+        ensures room { result.room ≡ room }
+        ensures lent { lent result ≡ map (λ i. word_of (pattern_at i)) (upto (length (lent result))) }
     {
         let mut list = LentList::zeros(room);
-        fill_pattern(list.lend_mut());
+        let n = room.min(N);
+        fill_pattern(&mut list.numbers[..n]);
         list
     }
 
@@ -55,6 +60,13 @@ impl<const N: usize> LentList<N> {
     {
         let n = self.room.min(N);
         &mut self.numbers[..n]
+    }
+
+    // Puts a number at a place, where the list has that place.
+    pub fn put(&mut self, place: usize, n: u32)
+        ensures { self.new ≡ put_in self.old place n }
+    {
+        put(&mut self.numbers, place, n);
     }
 }
 
@@ -77,7 +89,9 @@ pub struct Lists<const N: usize> {
 
 impl<const N: usize> Lists<N> {
     // Lists of zeros, lent whole.
-    pub fn zeros() -> Self {
+    pub fn zeros() -> Self
+        ensures { result ≡ all_of (zeros_of N N) }
+    {
         Lists {
             pents: LentList::zeros(N),
             edges: LentList::zeros(N),
@@ -136,31 +150,41 @@ impl<const N: usize> Lists<N> {
         }
     }
 
-    // The list of a name.
-    pub fn list_mut(&mut self, name: ListName) -> &mut LentList<N>
-        ensures { result.now ≡ list_of name self.old }
+    // Puts a number at a place of a list, where it has that place.
+    #[tactic(auto, unfolding(crate::specs::Owned::list_of, crate::specs::Owned::with_list))]
+    pub fn put(&mut self, name: ListName, place: usize, n: u32)
+        ensures { self.new ≡ with_list name (put_in (list_of name self.old) place n) self.old }
     {
         match name {
-            ListName::Pents => &mut self.pents,
-            ListName::Edges => &mut self.edges,
-            ListName::Triangles => &mut self.triangles,
-            ListName::Tets => &mut self.tets,
-            ListName::TriToPentsItems => &mut self.tri_to_pents_items,
-            ListName::TriToPentsStarts => &mut self.tri_to_pents_starts,
-            ListName::EdgeToTrisItems => &mut self.edge_to_tris_items,
-            ListName::EdgeToTrisStarts => &mut self.edge_to_tris_starts,
-            ListName::EdgeToPentsItems => &mut self.edge_to_pents_items,
-            ListName::EdgeToPentsStarts => &mut self.edge_to_pents_starts,
+            ListName::Pents => self.pents.put(place, n),
+            ListName::Edges => self.edges.put(place, n),
+            ListName::Triangles => self.triangles.put(place, n),
+            ListName::Tets => self.tets.put(place, n),
+            ListName::TriToPentsItems => self.tri_to_pents_items.put(place, n),
+            ListName::TriToPentsStarts => self.tri_to_pents_starts.put(place, n),
+            ListName::EdgeToTrisItems => self.edge_to_tris_items.put(place, n),
+            ListName::EdgeToTrisStarts => self.edge_to_tris_starts.put(place, n),
+            ListName::EdgeToPentsItems => self.edge_to_pents_items.put(place, n),
+            ListName::EdgeToPentsStarts => self.edge_to_pents_starts.put(place, n),
         }
     }
 
-    // Puts a number at a place of a list, where it has that place.
-    pub fn put(&mut self, name: ListName, place: usize, n: u32) {
-        put(&mut self.list_mut(name).numbers, place, n);
-    }
-
     // Gives a list another room.
-    pub fn set_room(&mut self, name: ListName, room: usize) {
-        self.list_mut(name).room = room;
+    #[tactic(auto, unfolding(crate::specs::Owned::list_of, crate::specs::Owned::with_list))]
+    pub fn set_room(&mut self, name: ListName, room: usize)
+        ensures { self.new ≡ with_list name (with_room (list_of name self.old) room) self.old }
+    {
+        match name {
+            ListName::Pents => self.pents.room = room,
+            ListName::Edges => self.edges.room = room,
+            ListName::Triangles => self.triangles.room = room,
+            ListName::Tets => self.tets.room = room,
+            ListName::TriToPentsItems => self.tri_to_pents_items.room = room,
+            ListName::TriToPentsStarts => self.tri_to_pents_starts.room = room,
+            ListName::EdgeToTrisItems => self.edge_to_tris_items.room = room,
+            ListName::EdgeToTrisStarts => self.edge_to_tris_starts.room = room,
+            ListName::EdgeToPentsItems => self.edge_to_pents_items.room = room,
+            ListName::EdgeToPentsStarts => self.edge_to_pents_starts.room = room,
+        }
     }
 }

@@ -26,6 +26,7 @@ impl TryFrom<u64> for ListName {
 
     ghost try_from_gives = { λ n name. name ≡ name_of n };
 
+    #[tactic(auto, unfolding(crate::specs::Names::name_of))]
     fn try_from(n: u64) -> Result<ListName, NoList> {
         match n {
             0 => Ok(ListName::Pents),
