@@ -95,8 +95,7 @@ fn add_second_term(
     let mut marks = [false; 8192];
     mark_pents(complex, free_edges, &mut marks);
     add_marked_pents(
-        complex, incidence, sq_lengths, free_edges, &marks,
-        fd_eps, matrix,
+        complex, incidence, sq_lengths, free_edges, &marks, fd_eps, matrix,
     );
 }
 
@@ -121,17 +120,8 @@ fn add_marked_tri(
     if !mark {
         return;
     }
-    let own = tri_edge_indices(
-        complex,
-        incidence,
-        tri,
-    );
-    let hinge = hinge_at(
-        complex,
-        incidence,
-        sq_lengths,
-        tri,
-    );
+    let own = tri_edge_indices(complex, incidence, tri);
+    let hinge = hinge_at(complex, incidence, sq_lengths, tri);
     let s = tri_sq_lengths(own, sq_lengths);
     let at = places_of_three(free_edges, own);
     add_first(
@@ -238,19 +228,6 @@ pub fn write_hessian(
 {
     let n = free_edges.len();
     zero_all(n * n, matrix);
-    add_second_term(
-        complex,
-        incidence,
-        sq_lengths,
-        free_edges,
-        fd_eps,
-        matrix,
-    );
-    add_first_term(
-        complex,
-        incidence,
-        sq_lengths,
-        free_edges,
-        matrix,
-    );
+    add_second_term(complex, incidence, sq_lengths, free_edges, fd_eps, matrix);
+    add_first_term(complex, incidence, sq_lengths, free_edges, matrix);
 }

@@ -53,11 +53,7 @@ fn print_built(rt: &impl Print, built: std::result::Result<Counts, Refusal>) -> 
     match built {
         Ok(counts) => println!(rt;
             "vertices {} pentachorons {} edges {} triangles {} tets {}",
-            counts.vertices,
-            counts.pentachorons,
-            counts.edges,
-            counts.triangles,
-            counts.tets
+            counts.vertices, counts.pentachorons, counts.edges, counts.triangles, counts.tets
         ),
         Err(refusal) => println!(rt; "refused {} {}", refusal.number(), refusal.place()),
     }
@@ -135,7 +131,12 @@ fn print_check(rt: &impl Print, given: &Given) -> Result<()> {
 }
 
 // A check of what a line built, and another after each of its changes.
-fn print_checks(rt: &impl Print, line: Line<'_>, counts: Counts, lists: &Lists<1000>) -> Result<()> {
+fn print_checks(
+    rt: &impl Print,
+    line: Line<'_>,
+    counts: Counts,
+    lists: &Lists<1000>,
+) -> Result<()> {
     let vertices = vertices_of(line);
     let mut given = Given {
         counts,

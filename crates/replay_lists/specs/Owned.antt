@@ -18,16 +18,17 @@ lent x = take x.room x.numbers
 abbrev pub all_of : {N : ℕ} → LentList N → Lists N
 all_of list =
     record {
-        pents = list;
-        edges = list;
-        triangles = list;
-        tets = list;
-        tri_to_pents_items = list;
-        tri_to_pents_starts = list;
-        edge_to_tris_items = list;
-        edge_to_tris_starts = list;
-        edge_to_pents_items = list;
-        edge_to_pents_starts = list }
+      pents = list;
+      edges = list;
+      triangles = list;
+      tets = list;
+      tri_to_pents_items = list;
+      tri_to_pents_starts = list;
+      edge_to_tris_items = list;
+      edge_to_tris_starts = list;
+      edge_to_pents_items = list;
+      edge_to_pents_starts = list;
+    }
 
 -- what is lent of the ten
 abbrev pub lent_of : {N : ℕ} → Lists N → built.Lists

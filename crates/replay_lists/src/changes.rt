@@ -58,10 +58,19 @@ pub fn with_count(counts: Counts, place: usize, n: usize) -> Counts
     ensures { result ≡ with_count counts place n }
 {
     match place {
-        0 => Counts { vertices: n, ..counts },
-        1 => Counts { pentachorons: n, ..counts },
+        0 => Counts {
+            vertices: n,
+            ..counts
+        },
+        1 => Counts {
+            pentachorons: n,
+            ..counts
+        },
         2 => Counts { edges: n, ..counts },
-        3 => Counts { triangles: n, ..counts },
+        3 => Counts {
+            triangles: n,
+            ..counts
+        },
         4 => Counts { tets: n, ..counts },
         _ => counts,
     }

@@ -11,9 +11,8 @@ ghost use Rattle.replay.specs.Filled.{word_of, pattern_at};
 ghost use Rattle.replay_lists.specs.Owned.{zeros_of, lent, put_in, with_room, all_of, lent_of, list_of, with_list};
 
 pub use changes::{Change, Target, with_count};
-pub use names::{ListName, NoList};
-
 use complex::{AdjacencyList, Complex, Counts, ListsMut};
+pub use names::{ListName, NoList};
 use replay::{fill_pattern, first, put};
 
 // ---- a list

@@ -168,8 +168,11 @@ impl Given<'_> {
         let mut grad = [0.0; 100];
         let grad = &mut grad[..room_of(self.line, 2)];
         fill_pattern(grad);
-        let outcome =
-            lorentzian_regge::lorentzian_regge_action_grad(&self.complex, self.sq_lengths, grad);
+        let outcome = lorentzian_regge::lorentzian_regge_action_grad(
+            &self.complex,
+            self.sq_lengths,
+            grad,
+        );
         print!(rt; "grad {}", number_in(&outcome))?;
         print_doubles(rt, grad)
     }
@@ -179,9 +182,7 @@ impl Given<'_> {
         let signs = length_signs::length_signs(self.sq_lengths);
         println!(rt;
             "timelike {} null {} spacelike {}",
-            signs.timelike,
-            signs.null,
-            signs.spacelike
+            signs.timelike, signs.null, signs.spacelike
         )
     }
 
@@ -267,8 +268,11 @@ fn print_built(rt: &impl Print, line: Line<'_>) -> Result<()> {
     }
     // The longest room that 8 pentachorons ask for.
     let mut lists = Lists::<240>::zeros();
-    let built =
-        builder::from_pentachorons(line.size(0), &given[..5 * pents], &mut lists.lend_mut());
+    let built = builder::from_pentachorons(
+        line.size(0),
+        &given[..5 * pents],
+        &mut lists.lend_mut(),
+    );
     let change = Change::from(line.number(7));
     change.make(&mut lists);
     let mut sq_lengths = [0.0; 80];

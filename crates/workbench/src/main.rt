@@ -24,15 +24,11 @@ fn letter_of(byte: u8) -> &'static str {
 fn print_counts(rt: &impl Print, counts: Counts, signs: LengthSigns) -> Result<()> {
     println!(rt;
         "edges {} triangles {} tets {}",
-        counts.edges,
-        counts.triangles,
-        counts.tets
+        counts.edges, counts.triangles, counts.tets
     )?;
     println!(rt;
         "timelike {} null {} spacelike {}",
-        signs.timelike,
-        signs.null,
-        signs.spacelike
+        signs.timelike, signs.null, signs.spacelike
     )
 }
 
