@@ -62,6 +62,6 @@ module _ (c : Counts) (pents edges triangles items ss pe pt : List ℕ) (n : ℕ
       → first ≡ over (local_hessian F ls free eps) old
   unfolding diagonal_of
   hessian-whole once below few old zeros second first z s t =
-      matrix-over F ls free eps once ok.simplices ok.edges_found (pents-wide c pents edges triangles pe pt n ok.passable) ok.passable.edges_found (diagonal_of F ls free)
+      matrix-over F ls free eps once ok.simplices ok.edges_found (pents-wide ok.passable) ok.passable.edges_found (diagonal_of F ls free)
       (λ e m. diagonal-sum F ls free once ok.simplices ok.edges_found 81920 e (let w = mem-get_or 0 m in let k : get_or free w.0 0 < c.edges = below w.0 w.1 in omega (arith, k, w.2, few)) m)
       old zeros second first z s t
