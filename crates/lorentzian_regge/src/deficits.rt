@@ -29,7 +29,13 @@ pub fn lorentzian_deficit_angles_built(
     let counts = built.complex.counts;
     check_lengths(counts, sq_lengths.len())?;
     check_table(counts, deficits.len(), kinds.len())?;
-    write_table(&built.complex, &built.incidence, sq_lengths, deficits, kinds);
+    write_table(
+        &built.complex,
+        &built.incidence,
+        sq_lengths,
+        deficits,
+        kinds,
+    );
     Ok(())
 }
 

@@ -7,7 +7,7 @@ use mathlib.Core.Path.{◌≡◌, sym, ap, ◌∙◌, subst}
 use native.Mathlib.Omega.{arith}
 use lib.Dec.{ltb}
 use lib.ListN.{length, get_or, take}
-use Rattle.std.proofs.lemmas.List.{length-take-le}
+use lib.Seq.{length-take-le}
 use borrow.Author.Tests.{ltb-false}
 use Rattle.lists.specs.Rows.{over}
 use Rattle.lists.proofs.Rows.{over-take}
@@ -92,8 +92,8 @@ write_hinges-requires c =
     let l : length (take n list) ≡ n = length-take-le n list (omega (arith, r.0, c.list_marked.auto.list)) in (
       p.lengths,
       (λ k h.
-      let i : k < n = omega (arith, h, l) in
-      subst (λ t. t < a.built.now.complex.counts.triangles) (sym (get_or-take n list k 0 i)) (listed_below a.built.now.complex.counts.triangles c.mark_tris.new.marks a.tris.now list c.list_marked.ensures k (omega (arith, i, c.count_marked-count.ensures)))),
+          let i : k < n = omega (arith, h, l) in
+          subst (λ t. t < a.built.now.complex.counts.triangles) (sym (get_or-take n list k 0 i)) (listed_below a.built.now.complex.counts.triangles c.mark_tris.new.marks a.tris.now list c.list_marked.ensures k (omega (arith, i, c.count_marked-count.ensures)))),
       omega (arith, l, r.1),
       omega (arith, l, r.2),
     )
