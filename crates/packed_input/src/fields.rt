@@ -50,20 +50,27 @@ pub fn pent_count(input: &[u8]) -> usize
     number(input, VERTEX_COUNT_BITS, PENT_COUNT_BITS) as usize
 }
 
-// The bit after the last vertex.
-fn vertices_end(n_pents: usize) -> usize
-    requires { n_pents ≤ 64 }
-    ensures { result ≡ vertices_end n_pents }
-{
-    HEADER_BITS + PENT_BITS * n_pents
+// Where the parts of an input lie that has so many pentachorons.
+#[derive(Clone, Copy)]
+pub struct Layout {
+    pub n_pents: usize,
+    ghost few: { n_pents ≤ 64 },
 }
 
-// The byte at which the lengths start.
-fn lengths_start(n_pents: usize) -> usize
-    requires { n_pents ≤ 64 }
-    ensures { result ≡ lengths_start n_pents }
-{
-    vertices_end(n_pents).div_ceil(8)
+impl Layout {
+    // The bit after the last vertex.
+    fn vertices_end(self) -> usize
+        ensures { result ≡ vertices_end self.n_pents }
+    {
+        HEADER_BITS + PENT_BITS * self.n_pents
+    }
+
+    // The byte at which the lengths start.
+    fn lengths_start(self) -> usize
+        ensures { result ≡ lengths_start self.n_pents }
+    {
+        self.vertices_end().div_ceil(8)
+    }
 }
 
 // 12 for a short header, 13 for more than 64 pentachorons, 12 for vertices that are cut short.
@@ -77,29 +84,29 @@ pub fn check_header(input: &[u8]) -> Result<(), Refusal>
     if MOST_PENTS < n_pents {
         return Err(Refusal::TooManyPentachorons);
     }
-    if input.len() < lengths_start(n_pents) {
+    if input.len() < (Layout { n_pents }).lengths_start() {
         return Err(Refusal::BadInput);
     }
     Ok(())
 }
 
 // Writes the vertices of the pentachorons to the front of a list.
-pub fn read_vertices(input: &[u8], n_pents: usize, given: &mut [u32])
-    requires { (n_pents ≤ 64) × (vertices_end n_pents ≤ 8 * length input.now) × (5 * n_pents ≤ length given.old) }
-    ensures { given.new ≡ over (vertices input.now n_pents) given.old }
+pub fn read_vertices(input: &[u8], layout: Layout, given: &mut [u32])
+    requires { (vertices_end layout.n_pents ≤ 8 * length input.now) × (5 * layout.n_pents ≤ length given.old) }
+    ensures { given.new ≡ over (vertices input.now layout.n_pents) given.old }
 {
-    for i in 0..5 * n_pents {
+    for i in 0..5 * layout.n_pents {
         given[i] = number(input, HEADER_BITS + VERTEX_BITS * i, VERTEX_BITS) as u32;
     }
 }
 
 // 12 for a bit that is set between vertices and lengths, or lengths that do not end the input exactly.
-pub fn check_tail(input: &[u8], n_pents: usize, n_edges: usize) -> Result<(), Refusal>
-    requires { (n_pents ≤ 64) × (n_edges ≤ 640) }
-    ensures { result ≡ tail_check_of input.now n_pents n_edges }
+pub fn check_tail(input: &[u8], layout: Layout, n_edges: usize) -> Result<(), Refusal>
+    requires { n_edges ≤ 640 }
+    ensures { result ≡ tail_check_of input.now layout.n_pents n_edges }
 {
-    let start = lengths_start(n_pents);
-    let end = vertices_end(n_pents);
+    let start = layout.lengths_start();
+    let end = layout.vertices_end();
     if input.len() != start + LENGTH_BYTES * n_edges || number(input, end, 8 * start - end) != 0 {
         return Err(Refusal::BadInput);
     }
@@ -107,11 +114,11 @@ pub fn check_tail(input: &[u8], n_pents: usize, n_edges: usize) -> Result<(), Re
 }
 
 // Writes the squared lengths to the front of a list.
-pub fn read_lengths(input: &[u8], n_pents: usize, n_edges: usize, sq_lengths: &mut [f64])
-    requires { (n_pents ≤ 64) × (n_edges ≤ 640) × (lengths_start n_pents + 8 * n_edges ≤ length input.now) × (n_edges ≤ length sq_lengths.old) }
-    ensures { sq_lengths.new ≡ over (sq_lengths_in input.now n_pents n_edges) sq_lengths.old }
+pub fn read_lengths(input: &[u8], layout: Layout, n_edges: usize, sq_lengths: &mut [f64])
+    requires { (n_edges ≤ 640) × (lengths_start layout.n_pents + 8 * n_edges ≤ length input.now) × (n_edges ≤ length sq_lengths.old) }
+    ensures { sq_lengths.new ≡ over (sq_lengths_in input.now layout.n_pents n_edges) sq_lengths.old }
 {
-    let start = 8 * lengths_start(n_pents);
+    let start = 8 * layout.lengths_start();
     for i in 0..n_edges {
         sq_lengths[i] = floats::of_bits(number(input, start + LENGTH_BITS * i, LENGTH_BITS));
     }

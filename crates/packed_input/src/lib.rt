@@ -12,7 +12,9 @@ ghost use Rattle.packed_input.specs.Decoding.{complex_of, complex_check_of, give
 
 use builder::from_pentachorons;
 use complex::{AdjacencyList, Complex, Counts, ListsMut};
-use fields::{check_header, check_tail, pent_count, read_lengths, read_vertices, vertex_count};
+use fields::{
+    Layout, check_header, check_tail, pent_count, read_lengths, read_vertices, vertex_count,
+};
 use refusals::Refusal;
 
 // The ten lists of a decoded complex, with room for 64 pentachorons; what is not written is zero.
@@ -77,7 +79,7 @@ fn decode_complex(input: &[u8], lists: &mut ListsMut<'_>) -> Result<Counts, Refu
     check_header(input)?;
     let mut given = [0u32; 320];
     let n_pents = pent_count(input);
-    read_vertices(input, n_pents, &mut given);
+    read_vertices(input, Layout { n_pents }, &mut given);
     from_pentachorons(vertex_count(input), &given[..5 * n_pents], lists)
 }
 
@@ -91,8 +93,11 @@ fn decode_lengths(
     ensures { (result ≡ with_lengths input.now built) × (sq_lengths.new ≡ lengths_after input.now result sq_lengths.old) }
 {
     let counts = built?;
-    check_tail(input, counts.pentachorons, counts.edges)?;
-    read_lengths(input, counts.pentachorons, counts.edges, sq_lengths);
+    let layout = Layout {
+        n_pents: counts.pentachorons,
+    };
+    check_tail(input, layout, counts.edges)?;
+    read_lengths(input, layout, counts.edges, sq_lengths);
     Ok(counts)
 }
 

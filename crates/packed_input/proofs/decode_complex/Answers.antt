@@ -11,11 +11,16 @@ use Rattle.packed_input.proofs.decode_complex.Goals as goal
 pub pent_count-n_pents-requires : goal.pent_count-n_pents-requires
 pent_count-n_pents-requires c = (header-says c.args.input.now (sym c.check_header.ensures ∙ c.in_ok-check_header.was)).0
 
+pub invariant_of-read_vertices : goal.invariant_of-read_vertices
+invariant_of-read_vertices c =
+    let h = header-says c.args.input.now (sym c.check_header.ensures ∙ c.in_ok-check_header.was) in
+    omega (arith, c.pent_count-n_pents.ensures)
+
 pub read_vertices-requires : goal.read_vertices-requires
 read_vertices-requires c =
     let a = c.args in
     let h = header-says a.input.now (sym c.check_header.ensures ∙ c.in_ok-check_header.was) in
-    (omega arith, omega arith, omega arith)
+    (omega arith, omega arith)
 
 pub vertex_count-requires : goal.vertex_count-requires
 vertex_count-requires c = (header-says c.args.input.now (sym c.check_header.ensures ∙ c.in_ok-check_header.was)).0

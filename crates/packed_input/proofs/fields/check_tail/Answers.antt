@@ -10,14 +10,14 @@ pub returns-then-input-start : goal.returns-then-input-start
 returns-then-input-start c =
     let a = c.args in
     elim c.then-input-start.branch [
-      | then-input-start-via-then-input-start w ↦ tail-long a.input.now a.n_pents a.n_edges (λ e. omega arith)
+      | then-input-start-via-then-input-start w ↦ tail-long a.input.now a.layout.n_pents a.n_edges (λ e. omega arith)
       | then-input-start-via-else-input-start+then-number-ne0 w ↦
-          let n : w.number.result ≡ padding a.input.now a.n_pents = rw (c.lengths_start-start.ensures, c.vertices_end-end.ensures) at w.number.ensures.0 in
-          tail-set a.input.now a.n_pents a.n_edges (omega arith) (λ e. omega arith)
+          let n : w.number.result ≡ padding a.input.now a.layout.n_pents = rw (c.lengths_start-start.ensures, c.vertices_end-end.ensures) at w.number.ensures.0 in
+          tail-set a.input.now a.layout.n_pents a.n_edges (omega arith) (λ e. omega arith)
     ]
 
 pub returns : goal.returns
 returns c =
     let a = c.args in
-    let n : c.number.result ≡ padding a.input.now a.n_pents = rw (c.lengths_start-start.ensures, c.vertices_end-end.ensures) at c.number.ensures.0 in
-    tail-done a.input.now a.n_pents a.n_edges (omega arith) (omega arith)
+    let n : c.number.result ≡ padding a.input.now a.layout.n_pents = rw (c.lengths_start-start.ensures, c.vertices_end-end.ensures) at c.number.ensures.0 in
+    tail-done a.input.now a.layout.n_pents a.n_edges (omega arith) (omega arith)
