@@ -17,8 +17,13 @@ pub struct BuiltComplex<'a> {
     ghost built_with: { BuiltWith complex.counts (lists_of complex) incidence.pent_edges.now incidence.pent_tris.now },
 }
 
-// 7 where a complex is not built; where it is, the numbers of its pentachorons' edges and triangles are noted.
-pub fn check_noting(complex: &Complex<'_>, pent_edges: &mut [u32], pent_tris: &mut [u32]) -> Result<(), Refusal>
+// 7 where a complex is not built; where it is, the numbers of its pentachorons' edges and triangles are noted. Each call over a
+// complex begins with it.
+pub fn check_noting(
+    complex: &Complex<'_>,
+    pent_edges: &mut [u32],
+    pent_tris: &mut [u32],
+) -> Result<(), Refusal>
     requires { (81920 ≤ length pent_edges.old) × (81920 ≤ length pent_tris.old) }
     ensures outcome { result ≡ built_check_of complex.now.counts (lists_of complex.now) Done }
     ensures noted { result ≡ Done → BuiltWith complex.now.counts (lists_of complex.now) pent_edges.new pent_tris.new }

@@ -9,7 +9,8 @@ use complex::Face;
 use lists::match_rows;
 
 // Whether `list` begins with the faces of all pentachorons, numbered by first meeting, and n_faces is their count. `next`
-// links the chains of the search; `numbers` gets the number of each face as it is met, and is kept after these.
+// links the chains of the search; `numbers` gets the number of each face as it is met, and is kept after these. The list is no
+// `Rows`: whether it has so many is tested here.
 pub fn has_faces(
     face: Face,
     pents: &[u32],

@@ -136,6 +136,7 @@ pub fn is_built_noting(complex: &Complex<'_>, pent_edges: &mut [u32], pent_tris:
 pub fn is_built(complex: &Complex<'_>) -> bool
     ensures { result ≡ is_built complex.now.counts (lists_of complex.now) }
 {
+    // Fixed memory: each of the two calls with no scratch of the caller's brings its own.
     let mut edge_numbers = [0u32; 81920];
     let mut tri_numbers = [0u32; 81920];
     is_built_noting(complex, &mut edge_numbers, &mut tri_numbers)

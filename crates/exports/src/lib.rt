@@ -302,11 +302,7 @@ pub extern "C" fn cjapthumi_check_built(
         edge_to_pents_items,
         edge_to_pents_starts,
     );
-    let outcome = check_built(
-        &complex,
-        pent_edges,
-        pent_tris,
-    );
+    let outcome = check_built(&complex, pent_edges, pent_tris);
     number_in(&outcome)
 }
 
@@ -363,11 +359,7 @@ pub extern "C" fn cjapthumi_edge_types(
         edge_to_pents_items,
         edge_to_pents_starts,
     );
-    let outcome = edge_types(
-        lattice_of(n_t, n_s),
-        &complex,
-        types,
-    );
+    let outcome = edge_types(lattice_of(n_t, n_s), &complex, types);
     number_in(&outcome)
 }
 

@@ -3,11 +3,9 @@ use Prim.Native.Nat.{ℕ}
 use mathlib.Core.Bool.{Bool, true, false, cond}
 use mathlib.Core.List.{List, [], ◌∷◌, ◌++◌}
 use mathlib.Core.Path.{◌≡◌, refl, ap}
-use lib.Dec.{eqb}
 use lib.Ieee.{Float}
 use lib.ListN.{length, get_or}
 use Rattle.lists.specs.Lists.{keep, gather, upto}
-use Rattle.lists.proofs.Tests.{eqb-says, passes, fails}
 use Rattle.complex.specs.Complex.{row_numbers}
 use Rattle.marks.specs.Marks.{marked_below}
 use Rattle.hinges.specs.declared.hinge.Hinge.{Hinge}
@@ -20,15 +18,15 @@ use Rattle.hessian.specs.Steps.{if_marked}
 
 -- ---- marks
 
--- a mark of 1
-pub if-marked : (mark : ℕ) (es : List (ℕ × Float)) → mark ≡ 1 → if_marked mark es ≡ es
+-- a number that is marked
+pub if-marked : (mark : Bool) (es : List (ℕ × Float)) → mark ≡ true → if_marked mark es ≡ es
 unfolding if_marked
-if-marked mark es e = rw (passes (eqb-says mark 1) e) refl
+if-marked mark es e = rw e refl
 
--- another mark
-pub if-not-marked : (mark : ℕ) (es : List (ℕ × Float)) → (mark ≡ 1 → ⊥) → if_marked mark es ≡ []
+-- one that is not
+pub if-not-marked : (mark : Bool) (es : List (ℕ × Float)) → mark ≡ false → if_marked mark es ≡ []
 unfolding if_marked
-if-not-marked mark es n = rw (fails (eqb-says mark 1) n) refl
+if-not-marked mark es e = rw e refl
 
 gather-kept : {A B : Type 0} (f : A → List B) (q : A → Bool) (xs : List A) → gather (λ x. cond (q x) (f x) []) xs ≡ gather f (keep q xs)
 unfolding gather keep
@@ -40,9 +38,9 @@ gather-kept {A} {B} f q (x ∷ xs) = go (q x) (gather-kept f q xs)
     go false r = r
 
 -- a loop over all numbers that asks for each mark
-pub marked_events : (event : ℕ → List (ℕ × Float)) (n : ℕ) (marks : List ℕ) → gather (λ t. if_marked (get_or marks t 0) (event t)) (upto n) ≡ gather event (marked_below n marks)
+pub marked_events : (event : ℕ → List (ℕ × Float)) (n : ℕ) (marks : List Bool) → gather (λ t. if_marked (get_or marks t false) (event t)) (upto n) ≡ gather event (marked_below n marks)
 unfolding if_marked marked_below
-marked_events event n marks = gather-kept event (λ t. eqb (get_or marks t 0) 1) (upto n)
+marked_events event n marks = gather-kept event (λ t. get_or marks t false) (upto n)
 
 -- ---- a pentachoron and a triangle
 

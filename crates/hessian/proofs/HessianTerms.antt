@@ -1,4 +1,5 @@
 -- The two terms of the local Hessian over all triangles and pentachorons on free edges, from lists of marks and sums in scratch. Assumes nothing.
+use mathlib.Core.Bool.{Bool, false}
 use Prim.Native.Nat.{ℕ, ◌*◌, ◌≤◌, ◌<◌}
 use mathlib.Core.List.{List}
 use mathlib.Core.Path.{◌≡◌, ap, ◌∙◌}
@@ -25,19 +26,19 @@ use Rattle.hessian.specs.Steps.{ahead, diagonal_events, diagonal_of}
 use Rattle.hessian.proofs.HessianMatrix.{diagonal-sum, matrix-over}
 
 -- the marked rows are those on free edges
-on-free : (rs edges : List (List ℕ)) (free : List ℕ) (n m : ℕ) (marks₀ marks : List ℕ) → marks₀ ≡ replicate m 0 → marks ≡ marked (met rs edges free) marks₀ → length rs ≡ n → n ≤ m
+on-free : (rs edges : List (List ℕ)) (free : List ℕ) (n m : ℕ) (marks₀ marks : List Bool) → marks₀ ≡ replicate m false → marks ≡ marked (met rs edges free) marks₀ → length rs ≡ n → n ≤ m
     → marked_below n marks ≡ listed (length rs) (met rs edges free)
 on-free rs edges free n m marks₀ marks z e l h = rw (e, z, l) (marked-listed (met rs edges free) n m h)
 
 module _ (F : FaceLists) (ls : List Float) (free : List ℕ) (n : ℕ) where
   -- the second term
-  pub second-whole : (eps : Float) (m : ℕ) (marks₀ marks : List ℕ) → marks₀ ≡ replicate m 0 → marks ≡ marked (met F.pents F.edges free) marks₀ → length F.pents ≡ n → n ≤ m
+  pub second-whole : (eps : Float) (m : ℕ) (marks₀ marks : List Bool) → marks₀ ≡ replicate m false → marks ≡ marked (met F.pents F.edges free) marks₀ → length F.pents ≡ n → n ≤ m
       → (old new : List Float) → new ≡ scatter nan ◌⊕◌ (gather (second_at F ls free eps) (marked_below n marks)) old → new ≡ scatter nan ◌⊕◌ (gather (second_at F ls free eps) (local_pents F free)) old
   second-whole eps m marks₀ marks z e l h old new is =
       is ∙ ap (λ (xs : List ℕ). scatter nan ◌⊕◌ (gather (second_at F ls free eps) xs) old) (on-free F.pents F.edges free n m marks₀ marks z e l h)
 
   -- the first term
-  pub first-whole : (m : ℕ) → m ≡ 81920 → (marks₀ marks : List ℕ) (sums₀ sums : List Float) → marks₀ ≡ replicate m 0 → sums₀ ≡ replicate m zero
+  pub first-whole : (m : ℕ) → m ≡ 81920 → (marks₀ marks : List Bool) (sums₀ sums : List Float) → marks₀ ≡ replicate m false → sums₀ ≡ replicate m zero
       → marks ≡ marked (met F.triangles F.edges free) marks₀ → length F.triangles ≡ n → n ≤ 81920 → (old now new : List Float)
       → sums ≡ scatter nan ◌⊕◌ (gather (diagonal_at F ls) (marked_below n marks)) sums₀ → now ≡ scatter nan before (gather (first_at F ls free) (marked_below n marks)) old → new ≡ scatter nan ahead (diagonal_events free sums) now
       → new ≡ scatter nan ahead (diagonal_events free (diagonal_of F ls free)) (scatter nan before (gather (first_at F ls free) (local_triangles F free)) old)
@@ -61,6 +62,6 @@ module _ (c : Counts) (pents edges triangles items ss pe pt : List ℕ) (n : ℕ
       → first ≡ over (local_hessian F ls free eps) old
   unfolding diagonal_of
   hessian-whole once below few old zeros second first z s t =
-      matrix-over F ls free eps once ok.simplices ok.edges_found (pents-wide c pents edges triangles pe pt n ok.passable) ok.passable.edges_found (diagonal_of F ls free)
+      matrix-over F ls free eps once ok.simplices ok.edges_found (pents-wide ok.passable) ok.passable.edges_found (diagonal_of F ls free)
       (λ e m. diagonal-sum F ls free once ok.simplices ok.edges_found 81920 e (let w = mem-get_or 0 m in let k : get_or free w.0 0 < c.edges = below w.0 w.1 in omega (arith, k, w.2, few)) m)
       old zeros second first z s t

@@ -24,14 +24,14 @@ use second_derivatives::{add_first, add_second, places_of_ten, places_of_three};
 
 // ---- the second term
 
-// What a pentachoron adds if its mark is 1.
-fn add_marked_pent<'a>(
-    complex: &Complex<'a>,
-    incidence: &Incidence<'a>,
-    sq_lengths: &'a [f64],
-    free_edges: &'a [u32],
+// What a pentachoron adds if it is marked.
+fn add_marked_pent(
+    complex: &Complex<'_>,
+    incidence: &Incidence<'_>,
+    sq_lengths: &[f64],
+    free_edges: &[u32],
     fd_eps: f64,
-    mark: u8,
+    mark: bool,
     pent: PentachoronNumber,
     matrix: &mut [f64],
 )
@@ -39,7 +39,7 @@ fn add_marked_pent<'a>(
         × (pent.0 < complex.now.counts.pentachorons) × (length free_edges.now ≤ 81920) × (length free_edges.now * length free_edges.now ≤ length matrix.old) }
     ensures { matrix.new ≡ scatter nan ◌⊕◌ (if_marked mark (second_at (faces_of complex.now) sq_lengths.now free_edges.now fd_eps pent.0)) matrix.old }
 {
-    if mark != 1 {
+    if !mark {
         return;
     }
     let own = pent_edge_indices(complex, incidence, pent);
@@ -49,12 +49,12 @@ fn add_marked_pent<'a>(
 }
 
 // What all marked pentachorons add, in their order.
-fn add_marked_pents<'a>(
-    complex: &Complex<'a>,
-    incidence: &Incidence<'a>,
-    sq_lengths: &'a [f64],
-    free_edges: &'a [u32],
-    marks: &'a [u8],
+fn add_marked_pents(
+    complex: &Complex<'_>,
+    incidence: &Incidence<'_>,
+    sq_lengths: &[f64],
+    free_edges: &[u32],
+    marks: &[bool],
     fd_eps: f64,
     matrix: &mut [f64],
 )
@@ -79,11 +79,11 @@ fn add_marked_pents<'a>(
 }
 
 // What all pentachorons on free edges add.
-fn add_second_term<'a>(
-    complex: &Complex<'a>,
-    incidence: &Incidence<'a>,
-    sq_lengths: &'a [f64],
-    free_edges: &'a [u32],
+fn add_second_term(
+    complex: &Complex<'_>,
+    incidence: &Incidence<'_>,
+    sq_lengths: &[f64],
+    free_edges: &[u32],
     fd_eps: f64,
     matrix: &mut [f64],
 )
@@ -92,27 +92,22 @@ fn add_second_term<'a>(
         × Below free_edges.now complex.now.counts.edges × (length free_edges.now ≤ 81920) × (length free_edges.now * length free_edges.now ≤ length matrix.old) }
     ensures { matrix.new ≡ scatter nan ◌⊕◌ (gather (second_at (faces_of complex.now) sq_lengths.now free_edges.now fd_eps) (local_pents (faces_of complex.now) free_edges.now)) matrix.old }
 {
-    let mut marks = [0u8; 8192];
-    mark_pents(
-        complex,
-        free_edges,
-        &mut marks,
-    );
+    let mut marks = [false; 8192];
+    mark_pents(complex, free_edges, &mut marks);
     add_marked_pents(
-        complex, incidence, sq_lengths, free_edges, &marks,
-        fd_eps, matrix,
+        complex, incidence, sq_lengths, free_edges, &marks, fd_eps, matrix,
     );
 }
 
 // ---- the first term
 
-// What a triangle adds if its mark is 1.
-fn add_marked_tri<'a>(
-    complex: &Complex<'a>,
-    incidence: &Incidence<'a>,
-    sq_lengths: &'a [f64],
-    free_edges: &'a [u32],
-    mark: u8,
+// What a triangle adds if it is marked.
+fn add_marked_tri(
+    complex: &Complex<'_>,
+    incidence: &Incidence<'_>,
+    sq_lengths: &[f64],
+    free_edges: &[u32],
+    mark: bool,
     tri: TriangleNumber,
     diagonal: &mut [f64],
     matrix: &mut [f64],
@@ -122,20 +117,11 @@ fn add_marked_tri<'a>(
     ensures { (diagonal.new ≡ scatter nan ◌⊕◌ (if_marked mark (diagonal_at (faces_of complex.now) sq_lengths.now tri.0)) diagonal.old)
         × (matrix.new ≡ scatter nan before (if_marked mark (first_at (faces_of complex.now) sq_lengths.now free_edges.now tri.0)) matrix.old) }
 {
-    if mark != 1 {
+    if !mark {
         return;
     }
-    let own = tri_edge_indices(
-        complex,
-        incidence,
-        tri,
-    );
-    let hinge = hinge_at(
-        complex,
-        incidence,
-        sq_lengths,
-        tri,
-    );
+    let own = tri_edge_indices(complex, incidence, tri);
+    let hinge = hinge_at(complex, incidence, sq_lengths, tri);
     let s = tri_sq_lengths(own, sq_lengths);
     let at = places_of_three(free_edges, own);
     add_first(
@@ -150,12 +136,12 @@ fn add_marked_tri<'a>(
 }
 
 // What all marked triangles add, in their order.
-fn add_marked_tris<'a>(
-    complex: &Complex<'a>,
-    incidence: &Incidence<'a>,
-    sq_lengths: &'a [f64],
-    free_edges: &'a [u32],
-    marks: &'a [u8],
+fn add_marked_tris(
+    complex: &Complex<'_>,
+    incidence: &Incidence<'_>,
+    sq_lengths: &[f64],
+    free_edges: &[u32],
+    marks: &[bool],
     diagonal: &mut [f64],
     matrix: &mut [f64],
 )
@@ -181,7 +167,7 @@ fn add_marked_tris<'a>(
 }
 
 // Each sum on the diagonal before what its entry holds.
-fn put_diagonal<'a>(free_edges: &'a [u32], diagonal: &'a [f64], matrix: &mut [f64])
+fn put_diagonal(free_edges: &[u32], diagonal: &[f64], matrix: &mut [f64])
     requires { Below free_edges.now (length diagonal.now) × (length free_edges.now ≤ 81920) × (length free_edges.now * length free_edges.now ≤ length matrix.old) }
     ensures { matrix.new ≡ scatter nan ahead (diagonal_events free_edges.now diagonal.now) matrix.old }
 {
@@ -195,11 +181,11 @@ fn put_diagonal<'a>(free_edges: &'a [u32], diagonal: &'a [f64], matrix: &mut [f6
 }
 
 // What all triangles on free edges add, before what the entries hold.
-fn add_first_term<'a>(
-    complex: &Complex<'a>,
-    incidence: &Incidence<'a>,
-    sq_lengths: &'a [f64],
-    free_edges: &'a [u32],
+fn add_first_term(
+    complex: &Complex<'_>,
+    incidence: &Incidence<'_>,
+    sq_lengths: &[f64],
+    free_edges: &[u32],
     matrix: &mut [f64],
 )
     requires { IsMeasured complex.now incidence.now (length sq_lengths.now)
@@ -208,13 +194,9 @@ fn add_first_term<'a>(
     ensures { matrix.new ≡ scatter nan ahead (diagonal_events free_edges.now (diagonal_of (faces_of complex.now) sq_lengths.now free_edges.now))
         (scatter nan before (gather (first_at (faces_of complex.now) sq_lengths.now free_edges.now) (local_triangles (faces_of complex.now) free_edges.now)) matrix.old) }
 {
-    let mut marks = [0u8; 81920];
+    let mut marks = [false; 81920];
     let mut diagonal = [0.0; 81920];
-    mark_tris(
-        complex,
-        free_edges,
-        &mut marks,
-    );
+    mark_tris(complex, free_edges, &mut marks);
     add_marked_tris(
         complex,
         incidence,
@@ -230,11 +212,11 @@ fn add_first_term<'a>(
 // ---- the whole
 
 // The entries of all pairs of free edges.
-pub fn write_hessian<'a>(
-    complex: &Complex<'a>,
-    incidence: &Incidence<'a>,
-    sq_lengths: &'a [f64],
-    free_edges: &'a [u32],
+pub fn write_hessian(
+    complex: &Complex<'_>,
+    incidence: &Incidence<'_>,
+    sq_lengths: &[f64],
+    free_edges: &[u32],
     fd_eps: f64,
     matrix: &mut [f64],
 )
@@ -246,19 +228,6 @@ pub fn write_hessian<'a>(
 {
     let n = free_edges.len();
     zero_all(n * n, matrix);
-    add_second_term(
-        complex,
-        incidence,
-        sq_lengths,
-        free_edges,
-        fd_eps,
-        matrix,
-    );
-    add_first_term(
-        complex,
-        incidence,
-        sq_lengths,
-        free_edges,
-        matrix,
-    );
+    add_second_term(complex, incidence, sq_lengths, free_edges, fd_eps, matrix);
+    add_first_term(complex, incidence, sq_lengths, free_edges, matrix);
 }

@@ -16,8 +16,8 @@ ghost use Rattle.hinge_table.specs.Table.{short_records, TableWorked, TableRetou
 use calls::{BuiltComplex, check_lengths, check_room};
 use comparison::is_built_noting;
 use complex::{Complex, Incidence};
-use hinges::hinge_at;
 pub use hinges::Hinge;
+use hinges::hinge_at;
 use incidence::{EdgeNumber, TriangleNumber};
 use refusals::Refusal;
 use retouch::{check_edge, list_touched};
@@ -123,6 +123,12 @@ pub fn retouch(
     let mut tris = [0u32; 81920];
     let count = list_touched(&built.complex, &built.incidence, edge, &mut tris);
     sq_lengths[edge.0 as usize] = sq_length;
-    write_records(&built.complex, &built.incidence, sq_lengths, &tris[..count], table);
+    write_records(
+        &built.complex,
+        &built.incidence,
+        sq_lengths,
+        &tris[..count],
+        table,
+    );
     Ok(())
 }

@@ -71,7 +71,7 @@ local-passed b free n h k =
       on_pents = built-edge-to-pents c l i;
     }
 
-module _ {c : Counts} {n : ℕ} {free : List ℕ} {others : Outcome} where
+module _ (c : Counts) (n : ℕ) (free : List ℕ) (others : Outcome) where
   -- where the check of lengths refuses it does so whatever the others say
   pub first-refused : {r : Refusal} → Err r ≡ lengths_check_of c n Done → lengths_check_of c n (free_check_of c free others) ≡ Err r
   first-refused h = lengths-refused c n (free_check_of c free others) (sym h)

@@ -35,7 +35,12 @@ fn write_hinges(
         × (kinds.new ≡ over (kinds_of (map (hinge_in (hinges (faces_of built.now.complex) sq_lengths.now)) tris.now)) kinds.old) }
 {
     for (k, t) in tris.iter().enumerate() {
-        let hinge = hinge_at(&built.complex, &built.incidence, sq_lengths, TriangleNumber(*t));
+        let hinge = hinge_at(
+            &built.complex,
+            &built.incidence,
+            sq_lengths,
+            TriangleNumber(*t),
+        );
         deficits[k] = hinge.deficit;
         kinds[k] = hinge.kind.number();
     }

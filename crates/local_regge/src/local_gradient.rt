@@ -21,7 +21,12 @@ use marks::mark_tris;
 use refusals::Refusal;
 
 // What the marked triangles add at their edges, in their order.
-fn add_marked_contributions(built: &BuiltComplex<'_>, sq_lengths: &[f64], marks: &[bool], entries: &mut [f64])
+fn add_marked_contributions(
+    built: &BuiltComplex<'_>,
+    sq_lengths: &[f64],
+    marks: &[bool],
+    entries: &mut [f64],
+)
     requires { (length sq_lengths.now ≡ built.now.complex.counts.edges)
         × (built.now.complex.counts.triangles ≤ length marks.now) × (built.now.complex.counts.edges ≤ length entries.old) }
     ensures { entries.new ≡ scatter nan ◌⊕◌ (gather (contributions (faces_of built.now.complex) sq_lengths.now (deficits_of (hinges (faces_of built.now.complex) sq_lengths.now))) (marked_below built.now.complex.counts.triangles marks.now)) entries.old }

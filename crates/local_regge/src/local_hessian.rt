@@ -27,7 +27,14 @@ pub fn local_lorentzian_regge_hessian_built(
     check_free(counts, free_edges)?;
     let n = free_edges.len();
     check_room(hessian.len() < n * n)?;
-    write_hessian(&built.complex, &built.incidence, sq_lengths, free_edges, fd_eps, hessian);
+    write_hessian(
+        &built.complex,
+        &built.incidence,
+        sq_lengths,
+        free_edges,
+        fd_eps,
+        hessian,
+    );
     Ok(())
 }
 

@@ -38,7 +38,13 @@ pub fn lorentzian_regge_action_built(
     check_lengths(built.complex.counts, sq_lengths.len())?;
     let mut deficits = [0.0; 81920];
     let mut kinds = [0u8; 81920];
-    write_table(&built.complex, &built.incidence, sq_lengths, &mut deficits, &mut kinds);
+    write_table(
+        &built.complex,
+        &built.incidence,
+        sq_lengths,
+        &mut deficits,
+        &mut kinds,
+    );
     Ok(sum_up(built, sq_lengths, &deficits))
 }
 

@@ -29,7 +29,13 @@ pub fn lorentzian_deficit_angles_built(
     let counts = built.complex.counts;
     check_lengths(counts, sq_lengths.len())?;
     check_table(counts, deficits.len(), kinds.len())?;
-    write_table(&built.complex, &built.incidence, sq_lengths, deficits, kinds);
+    write_table(
+        &built.complex,
+        &built.incidence,
+        sq_lengths,
+        deficits,
+        kinds,
+    );
     Ok(())
 }
 
@@ -45,6 +51,7 @@ pub fn lorentzian_deficit_angles(
         (lengths_check_of complex.now.counts (length sq_lengths.now) (room_check_of (short_table complex.now.counts (length deficits.old) (length kinds.old)))))
         (faces_of complex.now) sq_lengths.now deficits.old kinds.old result deficits.new kinds.new }
 {
+    // One function for these lines, with the rest of the call as a closure: tried, and the proof didn't close, since what a closure leaves in a lent list where it ends by `?` isn't known.
     let mut pent_edges = [0u32; 81920];
     let mut pent_tris = [0u32; 81920];
     check_noting(complex, &mut pent_edges, &mut pent_tris)?;

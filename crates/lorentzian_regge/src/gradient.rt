@@ -18,7 +18,12 @@ use one_pass::write_table;
 use refusals::Refusal;
 
 // What all triangles add, in their order.
-fn add_all_contributions(built: &BuiltComplex<'_>, sq_lengths: &[f64], deficits: &[f64], grad: &mut [f64])
+fn add_all_contributions(
+    built: &BuiltComplex<'_>,
+    sq_lengths: &[f64],
+    deficits: &[f64],
+    grad: &mut [f64],
+)
     requires { (length sq_lengths.now ≡ built.now.complex.counts.edges)
         × (built.now.complex.counts.triangles ≤ length deficits.now) × (built.now.complex.counts.edges ≤ length grad.old) }
     ensures { grad.new ≡ scatter nan ◌⊕◌ (gather (contributions (faces_of built.now.complex) sq_lengths.now deficits.now) (upto built.now.complex.counts.triangles)) grad.old }
@@ -45,7 +50,13 @@ pub fn lorentzian_regge_action_grad_built(
     check_room(grad.len() < counts.edges)?;
     let mut deficits = [0.0; 81920];
     let mut kinds = [0u8; 81920];
-    write_table(&built.complex, &built.incidence, sq_lengths, &mut deficits, &mut kinds);
+    write_table(
+        &built.complex,
+        &built.incidence,
+        sq_lengths,
+        &mut deficits,
+        &mut kinds,
+    );
     zero_all(counts.edges, grad);
     add_all_contributions(built, sq_lengths, &deficits, grad);
     Ok(())

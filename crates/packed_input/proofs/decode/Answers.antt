@@ -7,36 +7,6 @@ use Rattle.packed_input.specs.Decoding.{with_lengths, Few, zero_lists}
 use Rattle.packed_input.proofs.Complexes.{few-complex}
 use Rattle.packed_input.proofs.decode.Goals as goal
 
-pub slice_bounds-lists-end : goal.slice_bounds-lists-end
-slice_bounds-lists-end c = refl
-
-pub slice_bounds-lists-end-2 : goal.slice_bounds-lists-end-2
-slice_bounds-lists-end-2 c = refl
-
-pub slice_bounds-lists-end-3 : goal.slice_bounds-lists-end-3
-slice_bounds-lists-end-3 c = refl
-
-pub slice_bounds-lists-end-4 : goal.slice_bounds-lists-end-4
-slice_bounds-lists-end-4 c = refl
-
-pub slice_bounds-lists-end-5 : goal.slice_bounds-lists-end-5
-slice_bounds-lists-end-5 c = refl
-
-pub slice_bounds-lists-end-6 : goal.slice_bounds-lists-end-6
-slice_bounds-lists-end-6 c = refl
-
-pub slice_bounds-lists-end-7 : goal.slice_bounds-lists-end-7
-slice_bounds-lists-end-7 c = refl
-
-pub slice_bounds-lists-end-8 : goal.slice_bounds-lists-end-8
-slice_bounds-lists-end-8 c = refl
-
-pub slice_bounds-lists-end-9 : goal.slice_bounds-lists-end-9
-slice_bounds-lists-end-9 c = refl
-
-pub slice_bounds-lists-end-10 : goal.slice_bounds-lists-end-10
-slice_bounds-lists-end-10 c = refl
-
 pub decode_complex-built-requires : goal.decode_complex-built-requires
 unfolding rooms_of
 decode_complex-built-requires c = refl

@@ -8,23 +8,27 @@ use Rattle.packed_input.proofs.Refusing.{header-says}
 use Rattle.packed_input.proofs.Complexes.{length-vertices, vertices-front, header-decides, builder-answers}
 use Rattle.packed_input.proofs.decode_complex.Goals as goal
 
-pub number-n_vertices-requires : goal.number-n_vertices-requires
-number-n_vertices-requires c =
-    let a = c.args in
-    let h = header-says a.input.now (sym c.check_header.ensures ∙ c.in_ok-check_header.was) in
-    (omega arith, omega arith, omega arith)
+pub pent_count-n_pents-requires : goal.pent_count-n_pents-requires
+pent_count-n_pents-requires c = (header-says c.args.input.now (sym c.check_header.ensures ∙ c.in_ok-check_header.was)).0
 
-pub number-n_pents-requires : goal.number-n_pents-requires
-number-n_pents-requires c =
-    let a = c.args in
-    let h = header-says a.input.now (sym c.check_header.ensures ∙ c.in_ok-check_header.was) in
-    (omega arith, omega arith, omega arith)
+pub invariant_of-read_vertices : goal.invariant_of-read_vertices
+invariant_of-read_vertices c =
+    let h = header-says c.args.input.now (sym c.check_header.ensures ∙ c.in_ok-check_header.was) in
+    omega (arith, c.pent_count-n_pents.ensures)
 
 pub read_vertices-requires : goal.read_vertices-requires
 read_vertices-requires c =
     let a = c.args in
     let h = header-says a.input.now (sym c.check_header.ensures ∙ c.in_ok-check_header.was) in
-    (omega arith, omega arith, omega arith)
+    (omega arith, omega arith)
+
+pub vertex_count-requires : goal.vertex_count-requires
+vertex_count-requires c = (header-says c.args.input.now (sym c.check_header.ensures ∙ c.in_ok-check_header.was)).0
+
+pub overflow_mul-given : goal.overflow_mul-given
+overflow_mul-given c =
+    let h = header-says c.args.input.now (sym c.check_header.ensures ∙ c.in_ok-check_header.was) in
+    omega (arith, c.pent_count-n_pents.ensures)
 
 pub slice_bounds-given-end : goal.slice_bounds-given-end
 slice_bounds-given-end c =
@@ -34,7 +38,7 @@ slice_bounds-given-end c =
 pub slice_bounds-from_pentachorons-end : goal.slice_bounds-from_pentachorons-end
 slice_bounds-from_pentachorons-end c =
     let a = c.args in
-    let e = c.number-n_pents.ensures.0 in
+    let e = c.pent_count-n_pents.ensures in
     sym (ap length (vertices-front a.input.now _ _ _ e c.read_vertices.ensures) ∙ length-vertices a.input.now _ ∙ ap (λ (P : ℕ). 5 * P) (sym e))
 
 pub returns-in_err-check_header-clause-value : goal.returns-in_err-check_header-clause-value
@@ -50,6 +54,6 @@ pub returns : goal.returns
 returns c =
     let a = c.args in
     let h = sym c.check_header.ensures ∙ c.in_ok-check_header.was in
-    let g = vertices-front a.input.now _ _ _ c.number-n_pents.ensures.0 c.read_vertices.ensures in
-    let b = builder-answers a.input.now _ _ _ _ _ h c.number-n_vertices.ensures.0 g c.requires c.from_pentachorons.ensures.built in
+    let g = vertices-front a.input.now _ _ _ c.pent_count-n_pents.ensures c.read_vertices.ensures in
+    let b = builder-answers a.input.now _ _ _ _ _ h c.vertex_count.ensures g c.requires c.from_pentachorons.ensures.built in
     record { same = c.from_pentachorons.ensures.same; value = b.0; lists_after = b.1 }

@@ -11,13 +11,13 @@ use Rattle.packed_input.proofs.decode_lengths.Goals as goal
 pub check_tail-requires : goal.check_tail-requires
 check_tail-requires c =
     let few = subst (λ (b : Built). Few b (length c.args.sq_lengths.now)) c.in_ok-counts.was c.requires in
-    (few.0, few.1)
+    few.1
 
 pub read_lengths-requires : goal.read_lengths-requires
 read_lengths-requires c =
     let few = subst (λ (b : Built). Few b (length c.args.sq_lengths.now)) c.in_ok-counts.was c.requires in
     let ends = tail-says c.args.input.now _ _ (sym c.check_tail.ensures ∙ c.in_ok-check_tail.was) in
-    (few.0, few.1, omega arith, few.2)
+    (few.1, omega arith, few.2)
 
 pub returns-in_err-counts : goal.returns-in_err-counts
 returns-in_err-counts c =

@@ -1,4 +1,5 @@
 -- `hessian::matrix::add_first_term` meets its contract. Assumes nothing.
+use mathlib.Core.Bool.{Bool, false}
 use Prim.Native.Nat.{ℕ}
 use mathlib.Core.Path.{refl}
 use native.Mathlib.Omega.{arith}
@@ -13,7 +14,7 @@ pub add_marked_tris-requires : goal.add_marked_tris-requires
 add_marked_tris-requires c =
     let a = c.args in
     let r = c.requires in
-    (r.0, omega (arith, scratch-room {A = ℕ} 81920 refl 0 _ refl a.complex.now.counts.triangles r.0.few, c.mark_tris.auto.marks), scratch-room 81920 refl zero _ refl a.complex.now.counts.edges r.3, r.4, r.5)
+    (r.0, omega (arith, scratch-room {A = Bool} 81920 refl false _ refl a.complex.now.counts.triangles r.0.few, c.mark_tris.auto.marks), scratch-room 81920 refl zero _ refl a.complex.now.counts.edges r.3, r.4, r.5)
 
 pub put_diagonal-requires : goal.put_diagonal-requires
 put_diagonal-requires c =

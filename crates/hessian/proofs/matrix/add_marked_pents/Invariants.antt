@@ -1,4 +1,5 @@
 -- `hessian::matrix::add_marked_pents` meets its contract. Assumes nothing.
+use mathlib.Core.Bool.{Bool, false}
 use Prim.Native.Nat.{ℕ, ◌-◌, ◌≤◌}
 use mathlib.Core.List.{List}
 use mathlib.Core.Path.{◌≡◌}
@@ -13,8 +14,8 @@ use Rattle.hessian.specs.Steps.{if_marked}
 use Rattle.hessian.proofs.matrix.add_marked_pents.Given as goal
 
 -- what pentachoron p adds if it is marked
-abbrev pub event : FaceLists → List Float → List ℕ → Float → List ℕ → ℕ → List (ℕ × Float)
-event F ls free eps marks p = if_marked (get_or marks p 0) (second_at F ls free eps p)
+abbrev pub event : FaceLists → List Float → List ℕ → Float → List Bool → ℕ → List (ℕ × Float)
+event F ls free eps marks p = if_marked (get_or marks p false) (second_at F ls free eps p)
 
 abbrev pub invariant-loop-p : goal.invariant-loop-p
 invariant-loop-p l =

@@ -10,20 +10,20 @@ use Rattle.hessian.specs.Parts.{diagonal_at, first_at}
 use Rattle.hessian.proofs.HessianLoops.{if-marked, if-not-marked, diagonal-event, first-event}
 use Rattle.hessian.proofs.matrix.add_marked_tri.Goals as goal
 
-pub returns-then-mark-ne1 : goal.returns-then-mark-ne1
+pub returns-then-not-mark : goal.returns-then-not-mark
 unfolding scatter
-returns-then-mark-ne1 c = let m = c.args.mark in (rw (if-not-marked m _ c.if-mark-ne1.true) refl, rw (if-not-marked m _ c.if-mark-ne1.true) refl)
+returns-then-not-mark c = let m = c.args.mark in (rw (if-not-marked m _ c.if-not-mark.true) refl, rw (if-not-marked m _ c.if-not-mark.true) refl)
 
 pub tri_sq_lengths-s-requires : goal.tri_sq_lengths-s-requires
 tri_sq_lengths-s-requires c =
     let a = c.args in
-    edges-below a.complex.now.counts a.complex.now.pents.now a.complex.now.edges.now a.complex.now.triangles.now a.complex.now.tri_to_pents.items.now a.complex.now.tri_to_pents.starts.now a.incidence.now.pent_edges.now a.incidence.now.pent_tris.now (length a.sq_lengths.now) c.requires.0 a.tri.0 c.requires.1 (edge_list c.tri_edge_indices-own.result) c.tri_edge_indices-own.ensures (length a.sq_lengths.now) (omega (arith, c.requires.0.passable.lengths))
+    edges-below c.requires.0 a.tri.0 c.requires.1 (edge_list c.tri_edge_indices-own.result) c.tri_edge_indices-own.ensures (length a.sq_lengths.now) (omega (arith, c.requires.0.passable.lengths))
 
 pub add_first-requires : goal.add_first-requires
 add_first-requires c =
     let a = c.args in
     let r = c.requires in
-    (r.3, r.4, edges-below a.complex.now.counts a.complex.now.pents.now a.complex.now.edges.now a.complex.now.triangles.now a.complex.now.tri_to_pents.items.now a.complex.now.tri_to_pents.starts.now a.incidence.now.pent_edges.now a.incidence.now.pent_tris.now (length a.sq_lengths.now) r.0 a.tri.0 r.1 (edge_list c.tri_edge_indices-own.result) c.tri_edge_indices-own.ensures (length a.diagonal.now) r.2)
+    (r.3, r.4, edges-below r.0 a.tri.0 r.1 (edge_list c.tri_edge_indices-own.result) c.tri_edge_indices-own.ensures (length a.diagonal.now) r.2)
 
 pub returns : goal.returns
 returns c =
@@ -36,7 +36,7 @@ returns c =
     let f = c.add_first in
     let ls = a.sq_lengths.now in
     let free = a.free_edges.now in
-    let one = c.if-mark-ne1.false in (
+    let one = c.if-not-mark.false in (
       rw (if-marked a.mark (diagonal_at F ls a.tri.0) one, ← diagonal-event F ls free (edge_list o.result) p.result s.result a.tri.0 p.ensures s.ensures h.result o.ensures h.ensures) f.ensures.0,
       rw (if-marked a.mark (first_at F ls free a.tri.0) one, ← first-event F ls free (edge_list o.result) p.result s.result a.tri.0 p.ensures s.ensures h.result o.ensures h.ensures) f.ensures.1,
     )

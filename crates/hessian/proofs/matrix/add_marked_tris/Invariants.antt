@@ -1,4 +1,5 @@
 -- `hessian::matrix::add_marked_tris` meets its contract. Assumes nothing.
+use mathlib.Core.Bool.{Bool, false}
 use Prim.Native.Nat.{ℕ, ◌-◌, ◌≤◌}
 use mathlib.Core.List.{List}
 use mathlib.Core.Path.{◌≡◌}
@@ -14,12 +15,12 @@ use Rattle.hessian.specs.Steps.{if_marked}
 use Rattle.hessian.proofs.matrix.add_marked_tris.Given as goal
 
 -- what triangle t adds on the diagonal if it is marked
-abbrev pub on_event : FaceLists → List Float → List ℕ → ℕ → List (ℕ × Float)
-on_event F ls marks t = if_marked (get_or marks t 0) (diagonal_at F ls t)
+abbrev pub on_event : FaceLists → List Float → List Bool → ℕ → List (ℕ × Float)
+on_event F ls marks t = if_marked (get_or marks t false) (diagonal_at F ls t)
 
 -- and off it
-abbrev pub off_event : FaceLists → List Float → List ℕ → List ℕ → ℕ → List (ℕ × Float)
-off_event F ls free marks t = if_marked (get_or marks t 0) (first_at F ls free t)
+abbrev pub off_event : FaceLists → List Float → List ℕ → List Bool → ℕ → List (ℕ × Float)
+off_event F ls free marks t = if_marked (get_or marks t false) (first_at F ls free t)
 
 abbrev pub invariant-loop-t : goal.invariant-loop-t
 invariant-loop-t l =

@@ -53,11 +53,11 @@ pub check_free-requires : goal.check_free-requires
 check_free-requires c = few-edges c.args.built.now
 
 pub returns-in_err-check_lengths : goal.returns-in_err-check_lengths
-returns-in_err-check_lengths c = table-refused (first-refused c.in_err-check_lengths.ensures) (returned _ _ c.from_residual.ensures.1)
+returns-in_err-check_lengths c = table-refused (first-refused _ _ _ _ c.in_err-check_lengths.ensures) (returned _ _ c.from_residual.ensures.1)
 
 pub returns-in_err-check_free : goal.returns-in_err-check_free
 returns-in_err-check_free c =
-    table-refused (second-refused c.in_ok-check_lengths.ensures c.in_err-check_free.ensures) (returned _ _ c.from_residual-in_err-check_free.ensures.1)
+    table-refused (second-refused _ _ _ _ c.in_ok-check_lengths.ensures c.in_err-check_free.ensures) (returned _ _ c.from_residual-in_err-check_free.ensures.1)
 
 pub mark_tris-requires : goal.mark_tris-requires
 mark_tris-requires c = let p = passed (goal.at.mark_tris-requires c).In_ok-check_free in (p.on_triangles, p.below, p.measured.few)
@@ -68,12 +68,19 @@ count_marked-count-requires c = omega (arith, (passed (goal.at.count_marked-coun
 pub returns-in_err-check_room : goal.returns-in_err-check_room
 returns-in_err-check_room c =
     let d = (goal.at.returns-in_err-check_room c).After-check_room in
-    table-refused (others-left c.in_ok-check_lengths.ensures c.in_ok-check_free.ensures ∙ sym (room-says d) ∙ c.in_err-check_room.was) (returned _ _ c.from_residual-in_err-check_room.ensures.1)
+    table-refused (others-left _ _ _ _ c.in_ok-check_lengths.ensures c.in_ok-check_free.ensures ∙ sym (room-says d) ∙ c.in_err-check_room.was) (returned _ _ c.from_residual-in_err-check_room.ensures.1)
 
 pub list_marked-requires : goal.list_marked-requires
 list_marked-requires c =
     let few = (passed (goal.at.list_marked-requires c).In_ok-check_free).measured.few in
     (omega (arith, few, c.mark_tris.auto.marks), few, omega (arith, (room-left (goal.at.list_marked-requires c).In_ok-check_room).0, c.count_marked-count.ensures))
+
+pub slice_bounds-write_hinges-end : goal.slice_bounds-write_hinges-end
+slice_bounds-write_hinges-end c = omega (arith, (room-left (goal.at.slice_bounds-write_hinges-end c).In_ok-check_room).0, c.list_marked.auto.list)
+
+pub slice_bounds-write_hinges-end-2 : goal.slice_bounds-write_hinges-end-2
+slice_bounds-write_hinges-end-2 c =
+    sym (length-take-le c.count_marked-count.result c.list_marked.new.list (omega (arith, (room-left (goal.at.slice_bounds-write_hinges-end-2 c).In_ok-check_room).0, c.list_marked.auto.list)))
 
 pub write_hinges-requires : goal.write_hinges-requires
 write_hinges-requires c =
@@ -85,8 +92,8 @@ write_hinges-requires c =
     let l : length (take n list) ≡ n = length-take-le n list (omega (arith, r.0, c.list_marked.auto.list)) in (
       p.lengths,
       (λ k h.
-      let i : k < n = omega (arith, h, l) in
-      subst (λ t. t < a.built.now.complex.counts.triangles) (sym (get_or-take n list k 0 i)) (listed_below a.built.now.complex.counts.triangles c.mark_tris.new.marks a.tris.now list c.list_marked.ensures k (omega (arith, i, c.count_marked-count.ensures)))),
+          let i : k < n = omega (arith, h, l) in
+          subst (λ t. t < a.built.now.complex.counts.triangles) (sym (get_or-take n list k 0 i)) (listed_below a.built.now.complex.counts.triangles c.mark_tris.new.marks a.tris.now list c.list_marked.ensures k (omega (arith, i, c.count_marked-count.ensures)))),
       omega (arith, l, r.1),
       omega (arith, l, r.2),
     )
@@ -101,7 +108,7 @@ returns c =
     let t = c.list_marked.ensures ∙ ap (λ xs. over xs a.tris.now) m in
     let own = ap (take c.count_marked-count.result) t ∙ over-take (local_triangles F a.free_edges.now) a.tris.now c.count_marked-count.result (sym n) in
     table_done
-    (others-left c.in_ok-check_lengths.ensures c.in_ok-check_free.ensures ∙ sym (room-says d) ∙ c.in_ok-check_room.was)
+    (others-left _ _ _ _ c.in_ok-check_lengths.ensures c.in_ok-check_free.ensures ∙ sym (room-says d) ∙ c.in_ok-check_room.was)
     n t
     (c.write_hinges.ensures.0 ∙ ap (λ xs. over (deficits_of (map (hinge_in (hinges F a.sq_lengths.now)) xs)) a.deficits.now) own)
     (c.write_hinges.ensures.1 ∙ ap (λ xs. over (kinds_of (map (hinge_in (hinges F a.sq_lengths.now)) xs)) a.kinds.now) own)

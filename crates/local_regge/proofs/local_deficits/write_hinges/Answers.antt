@@ -38,7 +38,7 @@ returns c =
     let n : l.k ≤ length a.tris.now = omega arith in
     let all : take l.k a.tris.now ≡ a.tris.now = take_all l.k a.tris.now (omega arith) in (
       written_all (λ t. (hinge_in T t).deficit) a.tris.now l.k a.deficits.now l.deficits n l.invariant.0
-      ∙ ap (λ xs. over xs a.deficits.now) (ap (map (λ t. (hinge_in T t).deficit)) all ∙ sym (map-map (λ h. h.deficit) (hinge_in T) a.tris.now)),
+          ∙ ap (λ xs. over xs a.deficits.now) (ap (map (λ t. (hinge_in T t).deficit)) all ∙ sym (map-map (λ h. h.deficit) (hinge_in T) a.tris.now)),
       written_all (λ t. kind_number (hinge_in T t).kind) a.tris.now l.k a.kinds.now l.kinds n l.invariant.1
-      ∙ ap (λ xs. over xs a.kinds.now) (ap (map (λ t. kind_number (hinge_in T t).kind)) all ∙ sym (map-map (λ h. kind_number h.kind) (hinge_in T) a.tris.now)),
+          ∙ ap (λ xs. over xs a.kinds.now) (ap (map (λ t. kind_number (hinge_in T t).kind)) all ∙ sym (map-map (λ h. kind_number h.kind) (hinge_in T) a.tris.now)),
     )

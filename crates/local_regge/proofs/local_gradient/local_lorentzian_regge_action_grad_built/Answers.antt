@@ -16,15 +16,15 @@ pub check_free-requires : goal.check_free-requires
 check_free-requires c = few-edges c.args.built.now
 
 pub returns-in_err-check_lengths : goal.returns-in_err-check_lengths
-returns-in_err-check_lengths c = filled-refused (first-refused c.in_err-check_lengths.ensures) (returned _ _ c.from_residual.ensures.1)
+returns-in_err-check_lengths c = filled-refused (first-refused _ _ _ _ c.in_err-check_lengths.ensures) (returned _ _ c.from_residual.ensures.1)
 
 pub returns-in_err-check_free : goal.returns-in_err-check_free
 returns-in_err-check_free c =
-    filled-refused (second-refused c.in_ok-check_lengths.ensures c.in_err-check_free.ensures) (returned _ _ c.from_residual-in_err-check_free.ensures.1)
+    filled-refused (second-refused _ _ _ _ c.in_ok-check_lengths.ensures c.in_err-check_free.ensures) (returned _ _ c.from_residual-in_err-check_free.ensures.1)
 
 pub returns-in_err-check_room : goal.returns-in_err-check_room
 returns-in_err-check_room c =
-    filled-refused (others-left c.in_ok-check_lengths.ensures c.in_ok-check_free.ensures ∙ sym c.in_err-check_room.ensures) (returned _ _ c.from_residual-in_err-check_room.ensures.1)
+    filled-refused (others-left _ _ _ _ c.in_ok-check_lengths.ensures c.in_ok-check_free.ensures ∙ sym c.in_err-check_room.ensures) (returned _ _ c.from_residual-in_err-check_room.ensures.1)
 
 pub mark_tris-requires : goal.mark_tris-requires
 mark_tris-requires c = let p = passed (goal.at.mark_tris-requires c).In_ok-check_free in (p.on_triangles, p.below, p.measured.few)
@@ -43,6 +43,6 @@ pub returns : goal.returns
 returns c =
     let a = c.args in
     record {
-      answered = c.in_ok-check_room.ensures ∙ sym (others-left c.in_ok-check_lengths.ensures c.in_ok-check_free.ensures);
+      answered = c.in_ok-check_room.ensures ∙ sym (others-left _ _ _ _ c.in_ok-check_lengths.ensures c.in_ok-check_free.ensures);
       entries = entries-written a.built.now a.free_edges.now (length a.sq_lengths.now) (passed (goal.at.returns c).In_ok-check_free) a.sq_lengths.now 81920 refl c.mark_tris.new.marks c.mark_tris.ensures c.add_marked_contributions.new.entries c.add_marked_contributions.ensures a.grad.now c.write_entries.new.grad c.write_entries.ensures;
     }

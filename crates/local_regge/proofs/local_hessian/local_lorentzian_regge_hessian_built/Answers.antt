@@ -23,11 +23,11 @@ pub check_free-requires : goal.check_free-requires
 check_free-requires c = few-edges c.args.built.now
 
 pub returns-in_err-check_lengths : goal.returns-in_err-check_lengths
-returns-in_err-check_lengths c = filled-refused (first-refused c.in_err-check_lengths.ensures) (returned _ _ c.from_residual.ensures.1)
+returns-in_err-check_lengths c = filled-refused (first-refused _ _ _ _ c.in_err-check_lengths.ensures) (returned _ _ c.from_residual.ensures.1)
 
 pub returns-in_err-check_free : goal.returns-in_err-check_free
 returns-in_err-check_free c =
-    filled-refused (second-refused c.in_ok-check_lengths.ensures c.in_err-check_free.ensures) (returned _ _ c.from_residual-in_err-check_free.ensures.1)
+    filled-refused (second-refused _ _ _ _ c.in_ok-check_lengths.ensures c.in_err-check_free.ensures) (returned _ _ c.from_residual-in_err-check_free.ensures.1)
 
 pub overflow_mul-n : goal.overflow_mul-n
 overflow_mul-n c =
@@ -37,7 +37,7 @@ overflow_mul-n c =
 
 pub returns-in_err-check_room : goal.returns-in_err-check_room
 returns-in_err-check_room c =
-    filled-refused (others-left c.in_ok-check_lengths.ensures c.in_ok-check_free.ensures ∙ sym c.in_err-check_room.ensures) (returned _ _ c.from_residual-in_err-check_room.ensures.1)
+    filled-refused (others-left _ _ _ _ c.in_ok-check_lengths.ensures c.in_ok-check_free.ensures ∙ sym c.in_err-check_room.ensures) (returned _ _ c.from_residual-in_err-check_room.ensures.1)
 
 pub write_hessian-requires : goal.write_hessian-requires
 write_hessian-requires c =
@@ -47,6 +47,6 @@ write_hessian-requires c =
 
 pub returns : goal.returns
 returns c = record {
-  answered = c.in_ok-check_room.ensures ∙ sym (others-left c.in_ok-check_lengths.ensures c.in_ok-check_free.ensures);
+  answered = c.in_ok-check_room.ensures ∙ sym (others-left _ _ _ _ c.in_ok-check_lengths.ensures c.in_ok-check_free.ensures);
   entries = c.write_hessian.ensures;
 }

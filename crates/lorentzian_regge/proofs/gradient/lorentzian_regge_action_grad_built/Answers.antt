@@ -37,13 +37,10 @@ add_all_contributions-requires c =
 pub returns : goal.returns
 returns c =
     let a = c.args in
-    let x = a.built.now.complex in
-    let i = a.built.now.incidence in
-    let n = length a.sq_lengths.now in
-    let m = measured a.built.now n (lengths-passed _ _ Done (sym c.in_ok-check_lengths.ensures)).0 in
+    let b = a.built.now in
     record {
       answered = c.in_ok-check_room.ensures ∙ sym (lengths-decided _ _ _ (sym c.in_ok-check_lengths.ensures));
       entries =
-          entries_over x.counts x.pents.now x.edges.now x.triangles.now x.tri_to_pents.items.now x.tri_to_pents.starts.now i.pent_edges.now i.pent_tris.now n m a.sq_lengths.now c.write_table.new.deficits a.grad.now c.zero_all.new.list c.add_all_contributions.new.grad c.zero_all.ensures c.add_all_contributions.ensures
-          ∙ ap (λ r. over r a.grad.now) (gradient-front (faces_of x) a.sq_lengths.now _ _ c.write_table.ensures.0);
+          entries_over b a.sq_lengths.now c.write_table.new.deficits a.grad.now c.zero_all.new.list c.add_all_contributions.new.grad c.zero_all.ensures c.add_all_contributions.ensures
+          ∙ ap (λ r. over r a.grad.now) (gradient-front (faces_of b.complex) a.sq_lengths.now _ _ c.write_table.ensures.0);
     }
