@@ -1,5 +1,5 @@
 -- `marks::count_marked` meets its contract. Assumes nothing.
-use Rattle.std.proofs.Common.{◌≡◌, ◌∙◌, sym, ap, take, count_by, arith}
+use Rattle.std.proofs.Common.{◌∙◌, sym, ap, take, count_by, arith}
 use lib.Seq.{take_all}
 use Rattle.marks.proofs.Marking.{marked-counted}
 use Rattle.marks.proofs.count_marked.Goals as goal
