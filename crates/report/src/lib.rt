@@ -64,14 +64,18 @@ pub fn evaluate(input: &[u8]) -> Report
         kinds: [0; 640],
         grad: [0.0; 640],
     };
-    if let Ok(counts) = decoded.answer {
-        report.signs = evaluate_built(
-            &decoded.lists.complex(counts),
-            &decoded.sq_lengths[..counts.edges],
-            &mut report.deficits,
-            &mut report.kinds,
-            &mut report.grad,
-        );
+    match decoded.answer {
+        Err(_) => report,
+        Ok(counts) => {
+            let complex = decoded.lists.complex(counts);
+            report.signs = evaluate_built(
+                &complex,
+                &decoded.sq_lengths[..counts.edges],
+                &mut report.deficits,
+                &mut report.kinds,
+                &mut report.grad,
+            );
+            report
+        }
     }
-    report
 }
