@@ -111,14 +111,14 @@ fn print_kinds(rt: &impl Print, kinds: &[u8]) -> Result<()> {
 
 // What the calls of a line are given.
 #[derive(Clone, Copy)]
-struct Given<'a> {
-    line: Line<'a>,
-    complex: Complex<'a>,
+struct Given<'l, 'c, 'a> {
+    line: Line<'l>,
+    complex: Complex<'c>,
     sq_lengths: &'a [f64],
     free_edges: &'a [u32],
 }
 
-impl Given<'_> {
+impl Given<'_, '_, '_> {
     // The deficits and kinds of all triangles.
     fn print_deficits(&self, rt: &impl Print) -> Result<()> {
         let mut deficits = [0.0; 100];
@@ -283,9 +283,10 @@ fn print_built(rt: &impl Print, line: Line<'_>) -> Result<()> {
     read_list(line.0, 17 * (10 + pents + lengths), free_edges);
     match built {
         Ok(counts) => {
+            let complex = lists.lend(change.counts(counts));
             let given = Given {
                 line,
-                complex: lists.lend(change.counts(counts)),
+                complex,
                 sq_lengths,
                 free_edges,
             };
