@@ -7,7 +7,7 @@ ghost use Rattle.hinges.specs.Hinges.{faces_of, hinges, hinge_in};
 ghost use Rattle.hinges.specs.Parts.{IsMeasured};
 
 use complex::{Complex, Incidence};
-use hinges::hinge_at;
+use hinges::{byte_of, hinge_at};
 use incidence::TriangleNumber;
 
 // Writes the deficits and kinds of the triangles of a list, each at its own place. A table of records is written by a loop that is the
@@ -28,6 +28,6 @@ pub fn write_records<'a>(
     for &tri in tris {
         let hinge = hinge_at(complex, incidence, sq_lengths, TriangleNumber(tri));
         deficits[tri as usize] = hinge.deficit;
-        kinds[tri as usize] = hinge.kind.number();
+        kinds[tri as usize] = byte_of(Some(hinge.kind));
     }
 }

@@ -59,7 +59,7 @@ fn add_row(
     k: usize,
     e: usize,
     slope: f64,
-    matrix: &mut FreeMatrix<'_>,
+    matrix: &mut FreeMatrix<'_, '_>,
 )
     requires { (k < 10) × (e < 10) }
     ensures { Scattered ◌⊕◌ (placed (length matrix.old.free_edges.now) at.now (row_of slope jacobian.now k e)) matrix.old matrix.new }
@@ -76,7 +76,7 @@ fn add_slope(
     k: usize,
     e: usize,
     slope: f64,
-    matrix: &mut FreeMatrix<'_>,
+    matrix: &mut FreeMatrix<'_, '_>,
 )
     requires { (k < 10) × (e < 10) }
     ensures { Scattered ◌⊕◌ (placed (length matrix.old.free_edges.now) at.now (slope_row slope jacobian.now k e)) matrix.old matrix.new }
@@ -97,7 +97,7 @@ fn add_slopes(
     k: usize,
     factor: f64,
     grad: &[f64; 10],
-    matrix: &mut FreeMatrix<'_>,
+    matrix: &mut FreeMatrix<'_, '_>,
 )
     requires { k < 10 }
     ensures { Scattered ◌⊕◌ (placed (length matrix.old.free_edges.now) at.now (slope_rows factor grad.now jacobian.now k)) matrix.old matrix.new }
@@ -134,7 +134,7 @@ fn add_opposite(
     s: &[f64; 10],
     jacobian: &[f64; 100],
     k: usize,
-    matrix: &mut FreeMatrix<'_>,
+    matrix: &mut FreeMatrix<'_, '_>,
 )
     requires { k < 10 }
     ensures { Scattered ◌⊕◌ (placed (length matrix.old.free_edges.now) at.now (triangle_adds s.now jacobian.now k)) matrix.old matrix.new }
@@ -150,7 +150,7 @@ fn add_opposite(
 }
 
 // What a pentachoron of ten squared lengths adds.
-pub fn add_second(at: &[usize; 10], s: &[f64; 10], fd_eps: f64, matrix: &mut FreeMatrix<'_>)
+pub fn add_second(at: &[usize; 10], s: &[f64; 10], fd_eps: f64, matrix: &mut FreeMatrix<'_, '_>)
     ensures { Scattered ◌⊕◌ (placed (length matrix.old.free_edges.now) at.now (second_adds s.now fd_eps)) matrix.old matrix.new }
 {
     let jacobian = all_lorentzian_dihedrals_jacobian(s, fd_eps);
@@ -193,7 +193,7 @@ fn add_diagonal(edges: TriangleEdges, s: [f64; 3], area: f64, deficit: f64, diag
 const OTHERS: [(usize, usize); 6] = [(0, 1), (0, 2), (1, 0), (1, 2), (2, 0), (2, 1)];
 
 // What a triangle adds off the diagonal.
-fn put_others(at: [usize; 3], s: [f64; 3], area: f64, deficit: f64, matrix: &mut FreeMatrix<'_>)
+fn put_others(at: [usize; 3], s: [f64; 3], area: f64, deficit: f64, matrix: &mut FreeMatrix<'_, '_>)
     ensures { Scattered before (placed (length matrix.old.free_edges.now) at (off_diagonal (nine_adds s area deficit))) matrix.old matrix.new }
 {
     for (i, j) in OTHERS {
@@ -208,7 +208,7 @@ pub fn add_first(
     s: [f64; 3],
     deficit: f64,
     diagonal: &mut [f64],
-    matrix: &mut FreeMatrix<'_>,
+    matrix: &mut FreeMatrix<'_, '_>,
 )
     requires { Below (edge_list edges) (length diagonal.old) }
     ensures diagonal { diagonal.new ≡ scatter nan ◌⊕◌ (on_diagonal (edge_list edges) (first_adds s deficit)) diagonal.old }

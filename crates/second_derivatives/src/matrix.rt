@@ -5,9 +5,10 @@ ghost use Rattle.second_derivatives.specs.Parts.{index_of};
 use std::array::from_fn;
 
 // The matrix of second derivatives by the free edges, lent as a row for each of them, one after the other.
-pub struct FreeMatrix<'a> {
+#[derive(Drop)]
+pub struct FreeMatrix<'a, 'm> {
     pub free_edges: &'a [u32],
-    pub entries: &'a mut [f64],
+    pub entries: &'m mut [f64],
     ghost few: { length free_edges.now ≤ 81920 },
     ghost room: { length free_edges.now * length free_edges.now ≤ length entries.now },
 }
@@ -23,7 +24,7 @@ fn index_of(free_edges: &[u32], edge: u32) -> usize
         .unwrap_or(free_edges.len())
 }
 
-impl<'a> FreeMatrix<'a> {
+impl FreeMatrix<'_, '_> {
     ghost use Rattle.std.specs.Prelude.{◌<◌, IfSome};
     ghost use Rattle.floats.specs.Ops.{◌⊕◌};
     ghost use Rattle.second_derivatives.specs.Parts.{place_of, places_in, placed_in, before};

@@ -35,7 +35,7 @@ loop-tri-preserved c =
       ap (λ (u : Hinge). set l.deficits t u.deficit) h
           ∙ ap (λ xs. set xs t (hinge_in T t).deficit) l.invariant.2
           ∙ sym (writes-next (λ t. (hinge_in T t).deficit) a.tris.now a.deficits.now l.tri-index c.loop-tri-test.true),
-      ap (set l.kinds t) (c.number.ensures ∙ ap (λ (u : Hinge). kind_number u.kind) h)
+      ap (set l.kinds t) (c.byte_of.ensures ∙ ap (λ (u : Hinge). kind_number u.kind) h)
           ∙ ap (λ xs. set xs t (kind_number (hinge_in T t).kind)) l.invariant.3
           ∙ sym (writes-next (λ t. kind_number (hinge_in T t).kind) a.tris.now a.kinds.now l.tri-index c.loop-tri-test.true),
     )
