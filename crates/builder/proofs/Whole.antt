@@ -17,7 +17,10 @@ use Rattle.complex.specs.declared.numbering.Face.{Face}
 use Rattle.complex.specs.declared.numbering.Face.TheVariants.{Edge, Triangle, Tet}
 use Rattle.complex.specs.declared.numbering.FaceCounts.{FaceCounts}
 use Rattle.complex.specs.Complex.{width_of, count_of, faces, edges, triangles, tri_to_pents, edge_to_tris, edge_to_pents, numbers_of}
-use Rattle.complex.specs.Builder.{pentachorons, sorted_pents, counts_of, Lists, lists, written, over_all}
+use Rattle.complex.specs.declared.AdjacencyListMut.{AdjacencyListMut}
+use Rattle.complex.specs.declared.ListsMut.{ListsMut}
+use Rattle.complex.specs.Builder.{pentachorons, sorted_pents, counts_of, lists, written, over_all}
+use Rattle.complex.specs.Lent.{lists_in, IsGrouped}
 use Rattle.complex.specs.Parts.{Faces, AllFaces, Numbered, AllNumbered, EdgesOf, Lent, Adjacent, Buildable}
 use Rattle.complex.proofs.SortedPents.{sorted-wide-all, length-sorted-all, sorted_back}
 use Rattle.complex.proofs.Meetings.{count-le}
@@ -28,7 +31,7 @@ use Rattle.complex.proofs.FaceNumbers.{length-numbers, numbers-below, face-met, 
 pub zeros-room : (m n : ℕ) → n ≤ m → n ≤ length (replicate {A = ℕ} m 0)
 zeros-room m n h = rw length-replicate h
 
-module _ (given : List ℕ) (l : Lists) (ok : Buildable given l) where
+module _ (given : List ℕ) (l : ListsMut) (ok : Buildable given (lists_in l)) where
   -- ---- the sorted pentachorons
 
   pub many : length (sorted_pents given) ≡ length given / 5
@@ -43,9 +46,9 @@ module _ (given : List ℕ) (l : Lists) (ok : Buildable given l) where
   length-pents : length (flat (sorted_pents given)) ≡ length given
   length-pents = length-flat 5 (sorted_pents given) (sorted-wide-all given) ∙ omega (arith, many, ok.whole)
 
-  module _ (s : List ℕ) (left : s ≡ over (flat (sorted_pents given)) l.pents) where
+  module _ (s : List ℕ) (left : s ≡ over (flat (sorted_pents given)) l.pents.now) where
     part : take (length given) s ≡ flat (sorted_pents given)
-    part = ap (take (length given)) left ∙ over-take (flat (sorted_pents given)) l.pents (length given) length-pents
+    part = ap (take (length given)) left ∙ over-take (flat (sorted_pents given)) l.pents.now (length given) length-pents
 
     pub part-long : length (take (length given) s) ≡ length given
     part-long = ap length part ∙ length-pents
@@ -72,12 +75,12 @@ module _ (given : List ℕ) (l : Lists) (ok : Buildable given l) where
 
     -- and for those of all three kinds
     pub all-faces-room : (next pe pt : ℕ) → 81920 ≤ next → 81920 ≤ pe → 81920 ≤ pt
-        → AllFaces (length (take (length given) s)) (length l.edges) (length l.triangles) (length l.tets) next pe pt
+        → AllFaces (length (take (length given) s)) (length l.edges.now) (length l.triangles.now) (length l.tets.now) next pe pt
     all-faces-room next pe pt links edges tris =
         record {
-          for_tets = faces-room Tet (length l.tets) next pt (omega (arith, ok.tets_room)) links tris;
-          for_edges = faces-room Edge (length l.edges) next pe (omega (arith, ok.edges_room)) links edges;
-          for_triangles = faces-room Triangle (length l.triangles) next pt (omega (arith, ok.triangles_room)) links tris;
+          for_tets = faces-room Tet (length l.tets.now) next pt (omega (arith, ok.tets_room)) links tris;
+          for_edges = faces-room Edge (length l.edges.now) next pe (omega (arith, ok.edges_room)) links edges;
+          for_triangles = faces-room Triangle (length l.triangles.now) next pt (omega (arith, ok.triangles_room)) links tris;
         }
 
   -- ---- the numbers of faces
@@ -96,12 +99,12 @@ module _ (given : List ℕ) (l : Lists) (ok : Buildable given l) where
   abbrev pub lent : Lent
   lent =
       record {
-        tri_to_pents = length l.tri_to_pents;
-        tri_to_pents_starts = length l.tri_to_pents_starts;
-        edge_to_tris = length l.edge_to_tris;
-        edge_to_tris_starts = length l.edge_to_tris_starts;
-        edge_to_pents = length l.edge_to_pents;
-        edge_to_pents_starts = length l.edge_to_pents_starts;
+        tri_to_pents = length l.tri_to_pents.items.now;
+        tri_to_pents_starts = length l.tri_to_pents.starts.now;
+        edge_to_tris = length l.edge_to_tris.items.now;
+        edge_to_tris_starts = length l.edge_to_tris.starts.now;
+        edge_to_pents = length l.edge_to_pents.items.now;
+        edge_to_pents_starts = length l.edge_to_pents.starts.now;
       }
 
   pub adjacent : (scratch : ℕ) → 245760 ≤ scratch
@@ -127,17 +130,15 @@ module _ (given : List ℕ) (l : Lists) (ok : Buildable given l) where
 
   -- ---- what is left
 
-  module _ (n pentachorons nt ne nk : ℕ) (p' e' t' k' ut ut' ue ue' uk uk' : List ℕ) (count : pentachorons ≡ length given / 5) (sorted : p' ≡ over (flat (sorted_pents given)) l.pents)
-      (on_tets : Numbered Tet (sorted_pents given) l.tets k' uk uk' nk) (on_edges : Numbered Edge (sorted_pents given) l.edges e' ue ue' ne)
-      (on_triangles : Numbered Triangle (sorted_pents given) l.triangles t' ut ut' nt) where
+  module _ (n pentachorons nt ne nk : ℕ) (p' e' t' k' ut ut' ue ue' uk uk' : List ℕ) (count : pentachorons ≡ length given / 5) (sorted : p' ≡ over (flat (sorted_pents given)) l.pents.now)
+      (on_tets : Numbered Tet (sorted_pents given) l.tets.now k' uk uk' nk) (on_edges : Numbered Edge (sorted_pents given) l.edges.now e' ue ue' ne)
+      (on_triangles : Numbered Triangle (sorted_pents given) l.triangles.now t' ut ut' nt) where
     pub counts-are : ◌≡◌ {A = Counts} (record { vertices = n; pentachorons = pentachorons; edges = ne; triangles = nt; tets = nk }) (counts_of n (sorted_pents given))
     unfolding counts_of
     counts-are = rw (count ∙ sym many, on_edges.count, on_triangles.count, on_tets.count) refl
 
-    module _ (pe pt te tp' tps' et' ets' ep' eps' : List ℕ) (is-pe : pe ≡ numbers_of Edge (sorted_pents given)) (is-pt : pt ≡ numbers_of Triangle (sorted_pents given)) (room : 245760 ≤ length te)
-        (adj : EdgesOf pe pt te (length pt) × (tp' ≡ over (flat (groups 10 nt pt)) l.tri_to_pents) × (tps' ≡ over (starts (groups 10 nt pt)) l.tri_to_pents_starts)
-        × (et' ≡ over (flat (groups 3 ne (take (3 * nt) te))) l.edge_to_tris) × (ets' ≡ over (starts (groups 3 ne (take (3 * nt) te))) l.edge_to_tris_starts)
-        × (ep' ≡ over (flat (groups 10 ne pe)) l.edge_to_pents) × (eps' ≡ over (starts (groups 10 ne pe)) l.edge_to_pents_starts)) where
+    module _ (pe pt te : List ℕ) (tp' et' ep' : AdjacencyListMut) (is-pe : pe ≡ numbers_of Edge (sorted_pents given)) (is-pt : pt ≡ numbers_of Triangle (sorted_pents given)) (room : 245760 ≤ length te)
+        (edges-of : EdgesOf pe pt te (length pt)) (tp : IsGrouped 10 nt pt l.tri_to_pents tp') (et : IsGrouped 3 ne (take (3 * nt) te) l.edge_to_tris et') (ep : IsGrouped 10 ne pe l.edge_to_pents ep') where
       tp-groups : groups 10 nt pt ≡ tri_to_pents (sorted_pents given)
       tp-groups = rw (on_triangles.count, is-pt) (tri_to_pents_lem (sorted_pents given) (sorted-wide-all given) sorted-rising)
 
@@ -148,9 +149,9 @@ module _ (given : List ℕ) (l : Lists) (ok : Buildable given l) where
       et-groups =
           rw (on_edges.count, on_triangles.count)
           (edge-to-tris-stored (sorted_pents given) (sorted-wide-all given) sorted-rising te (omega (arith, few-faces Triangle refl, ok.few))
-          (rw (is-pe, is-pt) at adj.0))
+          (rw (is-pe, is-pt) at edges-of))
 
-      pub lists-are : lists p' e' t' k' tp' tps' et' ets' ep' eps' ≡ over_all (written (sorted_pents given)) l
+      pub lists-are : lists p' e' t' k' tp'.items.now tp'.starts.now et'.items.now et'.starts.now ep'.items.now ep'.starts.now ≡ over_all (written (sorted_pents given)) (lists_in l)
       unfolding written over_all
       lists-are =
           rw (
@@ -158,16 +159,16 @@ module _ (given : List ℕ) (l : Lists) (ok : Buildable given l) where
             on_edges.rows,
             on_triangles.rows,
             on_tets.rows,
-            adj.1 ∙ ap (λ (g : List (List ℕ)). over (flat g) l.tri_to_pents) tp-groups,
-            adj.2 ∙ ap (λ (g : List (List ℕ)). over (starts g) l.tri_to_pents_starts) tp-groups,
-            adj.3 ∙ ap (λ (g : List (List ℕ)). over (flat g) l.edge_to_tris) et-groups,
-            adj.4 ∙ ap (λ (g : List (List ℕ)). over (starts g) l.edge_to_tris_starts) et-groups,
-            adj.5 ∙ ap (λ (g : List (List ℕ)). over (flat g) l.edge_to_pents) ep-groups,
-            adj.6 ∙ ap (λ (g : List (List ℕ)). over (starts g) l.edge_to_pents_starts) ep-groups,
+            tp.items ∙ ap (λ (g : List (List ℕ)). over (flat g) l.tri_to_pents.items.now) tp-groups,
+            tp.starts ∙ ap (λ (g : List (List ℕ)). over (starts g) l.tri_to_pents.starts.now) tp-groups,
+            et.items ∙ ap (λ (g : List (List ℕ)). over (flat g) l.edge_to_tris.items.now) et-groups,
+            et.starts ∙ ap (λ (g : List (List ℕ)). over (starts g) l.edge_to_tris.starts.now) et-groups,
+            ep.items ∙ ap (λ (g : List (List ℕ)). over (flat g) l.edge_to_pents.items.now) ep-groups,
+            ep.starts ∙ ap (λ (g : List (List ℕ)). over (starts g) l.edge_to_pents.starts.now) ep-groups,
           )
           refl
 
 -- the same, for lists and counts that are so
-pub adjacent_as : (given : List ℕ) (l : Lists) (ok : Buildable given l) (pe pt : List ℕ) (ne nt scratch : ℕ) → pe ≡ numbers_of Edge (sorted_pents given) → pt ≡ numbers_of Triangle (sorted_pents given)
+pub adjacent_as : (given : List ℕ) (l : ListsMut) (ok : Buildable given (lists_in l)) (pe pt : List ℕ) (ne nt scratch : ℕ) → pe ≡ numbers_of Edge (sorted_pents given) → pt ≡ numbers_of Triangle (sorted_pents given)
     → ne ≡ length (edges (sorted_pents given)) → nt ≡ length (triangles (sorted_pents given)) → 245760 ≤ scratch → Adjacent pe pt ne nt scratch (lent given l ok)
 adjacent_as given l ok pe pt ne nt scratch is-pe is-pt is_ne is-nt h = rw (is-pe, is-pt, is_ne, is-nt) (adjacent given l ok scratch h)

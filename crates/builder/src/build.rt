@@ -16,14 +16,20 @@ pub fn build(n_vertices: usize, given: &[u32], lists: &mut ListsMut<'_>) -> Coun
     let mut work = [0u32; 245760];
     let mut pent_edges = [0u32; 81920];
     let mut pent_tris = [0u32; 81920];
+    // The lists are lent on before any call: the check reads no field of `lists` while another is lent.
+    let pents = &mut *lists.pents;
+    let edges = &mut *lists.edges;
+    let triangles = &mut *lists.triangles;
+    let tets = &mut *lists.tets;
     let len = given.len();
     let met = 2 * len;
-    sort_all(given, lists.pents);
+    sort_all(given, pents);
+    let sorted: &[u32] = pents;
     let faces = number_all(
-        &lists.pents[..len],
-        lists.edges,
-        lists.triangles,
-        lists.tets,
+        &sorted[..len],
+        edges,
+        triangles,
+        tets,
         &mut work,
         &mut pent_edges,
         &mut pent_tris,

@@ -57,5 +57,6 @@ pub record SameLists (a b : ListsMut) : Type 0 where
   pub edge_to_pents : SameAdjacencyList a.edge_to_pents b.edge_to_pents
 
 -- an adjacency list has, over its beginning, the numbers of the rows of w numbers of a flat list in which each number below m stands
-abbrev pub IsGrouped : ℕ → ℕ → List ℕ → AdjacencyListMut → AdjacencyListMut → Type 0
-IsGrouped w m ns a b = (b.items.now ≡ over (flat (groups w m ns)) a.items.now) × (b.starts.now ≡ over (starts (groups w m ns)) a.starts.now)
+pub record IsGrouped (w m : ℕ) (ns : List ℕ) (a b : AdjacencyListMut) : Type 0 where
+  pub items : b.items.now ≡ over (flat (groups w m ns)) a.items.now
+  pub starts : b.starts.now ≡ over (starts (groups w m ns)) a.starts.now

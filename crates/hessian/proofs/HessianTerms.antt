@@ -51,6 +51,6 @@ module _ (x : Complex) (i : Incidence) (n : ℕ) (ok : IsMeasured x i n) (ls : L
       → first ≡ over (local_hessian F ls free eps) old
   unfolding diagonal_of
   hessian-whole once below few old zeros second first z s t =
-      matrix-over F ls free eps once ok.simplices ok.edges_found (pents-wide x.counts x.pents.now x.edges.now x.triangles.now i.pent_edges.now i.pent_tris.now n ok.passable) ok.passable.edges_found (diagonal_of F ls free)
+      matrix-over F ls free eps once ok.simplices ok.edges_found (pents-wide ok.passable) ok.passable.edges_found (diagonal_of F ls free)
       (λ e m. diagonal-sum F ls free once ok.simplices ok.edges_found 81920 e (let w = mem-get_or 0 m in let k : get_or free w.0 0 < x.counts.edges = below w.0 w.1 in omega (arith, k, w.2, few)) m)
       old zeros second first z s t

@@ -1,5 +1,5 @@
 -- The kinds of hinges, as values and as bytes, and two doubles of their deficits. Assumes nothing.
-use Rattle.std.specs.Prelude.{Option, Some, None}
+use Rattle.std.specs.Prelude.{Option, Some, None, unwrap_or}
 use Prim.Native.Nat.{ℕ, ◌<◌}
 use mathlib.Core.Path.{◌≡◌, refl, ap, ◌∙◌}
 use mathlib.Core.List.{List, [], ◌∷◌, map, foldl}
@@ -15,7 +15,7 @@ use Rattle.lorentzian.specs.declared.dihedral.HingeType.TheVariants.{Spacelike, 
 use Rattle.lorentzian.specs.declared.dihedral.Dihedral.{Dihedral}
 use Rattle.lorentzian.specs.Dihedral.{kind_of}
 use Rattle.hinges.specs.declared.hinge.Hinge.{Hinge}
-use Rattle.hinges.specs.Hinges.{FaceLists, byte_of, kind_in, known_or, pi, deficit_of, first, closed, hinge, hinges, hinge_in, dihedral_in}
+use Rattle.hinges.specs.Hinges.{FaceLists, byte_of, kind_in, pi, deficit_of, first, closed, hinge, hinges, hinge_in, dihedral_in}
 use Rattle.hinges.proofs.OnePass.{hinge-in}
 
 -- ---- the kind of a hinge
@@ -29,7 +29,7 @@ first-stays k (d ∷ ds) = first-stays k ds
 -- the first dihedral decides
 pub kind-first : (d : Dihedral) (ds : List Dihedral) → (hinge (d ∷ ds)).kind ≡ kind_of d
 unfolding hinge closed first
-kind-first d ds = ap (λ (k : (Option HingeType)). known_or k Spacelike) (first-stays (kind_of d) ds)
+kind-first d ds = ap (λ (k : (Option HingeType)). unwrap_or k Spacelike) (first-stays (kind_of d) ds)
 
 pub kind-none : (hinge []).kind ≡ Spacelike
 unfolding hinge closed

@@ -27,7 +27,7 @@ numbers-below keys k r found i h =
 
 -- ---- a pentachoron of the lent lists
 
-module _ (c : Counts) (pents edges triangles pe pt : List ℕ) (n : ℕ) (ok : Passable c pents edges triangles pe pt n) where
+module _ {c : Counts} {pents edges triangles pe pt : List ℕ} {n : ℕ} (ok : Passable c pents edges triangles pe pt n) where
   pub pents-wide : Wide 5 (pents_in c pents)
   pents-wide = rows-wide 5 c.pentachorons pents ok.edge_numbers.room
 

@@ -27,7 +27,7 @@ opposite-below p t r five e = (below (mathlib.Core.List.Memᴰ.head refl), below
     below : {v : ℕ} → Memᴰ v (index_list r) → v < 5
     below {v} m = let k : v < length p = mem-upto (length p) v (keep-only _ (upto (length p)) (subst (λ (l : List ℕ). Memᴰ v l) e m)) in omega arith
 
-module _ (c : Counts) (pents edges triangles items ss pe pt : List ℕ) (n : ℕ) (ok : Measured c pents edges triangles items ss pe pt n) (t : ℕ) (inside : t < c.triangles) where
+module _ {c : Counts} {pents edges triangles items ss pe pt : List ℕ} {n : ℕ} (ok : Measured c pents edges triangles items ss pe pt n) (t : ℕ) (inside : t < c.triangles) where
   -- its edges have places in lists that have one for each
   pub edges-below : (own : List ℕ) → own ≡ row_numbers (edges_in c edges) 2 (get_or (triangles_in c triangles) t []) → (m : ℕ) → c.edges ≤ m → Below own m
   edges-below own e m h =

@@ -1,6 +1,6 @@
 -- The hinges of a complex: a deficit and a kind for each triangle, in one pass over the pentachorons as the Rust has it, and each triangle by itself. Definitions only.
 -- Pentachorons, edges and triangles are rising lists of vertices; `ls` has a signed squared length for each edge.
-use Rattle.std.specs.Prelude.{ℕ, zero, suc, not, length, get_or, replicate, Float, Option, Some, None}
+use Rattle.std.specs.Prelude.{ℕ, zero, suc, not, length, get_or, replicate, Float, Option, Some, None, unwrap_or}
 use mathlib.Core.List.{List, [], map, foldl}
 use Rattle.std.specs.Float.{nan}
 use Rattle.std.specs.Float.Ieee.{neg}
@@ -53,11 +53,6 @@ kind_in zero = Some Spacelike
 kind_in (suc zero) = Some Timelike
 kind_in (suc (suc n)) = None
 
--- the kind, or another where there is none
-abbrev pub known_or : Option HingeType → HingeType → HingeType
-known_or (Some k) other = k
-known_or None other = other
-
 -- ---- a hinge
 
 -- the Rust's PI
@@ -84,7 +79,7 @@ first None d = Some (kind_of d)
 
 -- the hinge of a first kind and a sum; Spacelike where there was no dihedral
 unfoldable pub closed : Option HingeType → Float → Hinge
-closed k sum = hinge_of (known_or k Spacelike) sum
+closed k sum = hinge_of (unwrap_or k Spacelike) sum
 
 -- the hinge that has these dihedrals, in this order
 unfoldable pub hinge : List Dihedral → Hinge

@@ -29,7 +29,13 @@ fn dihedral_in<'a>(
     let own = pent_edge_indices(complex, incidence, pent);
     let s = pent_sq_lengths(own, sq_lengths);
     let at = opposite_local_indices(complex, incidence, pent, tri);
-    dihedral_at(&s, at.l, at.m, compute_dihedral)
+    // The rule in a closure: another crate's function gets no proof here where its name is passed.
+    dihedral_at(
+        &s,
+        at.l,
+        at.m,
+        |c_lm, c_ll, c_mm| compute_dihedral(c_lm, c_ll, c_mm),
+    )
 }
 
 // The hinge of a triangle, from all pentachorons in which it lies.
@@ -46,13 +52,7 @@ pub fn hinge_at<'a>(
     let mut sum = 0.0;
     let mut kind = None;
     for &pent in pents_of_triangle(complex, tri) {
-        let dihedral = dihedral_in(
-            complex,
-            incidence,
-            sq_lengths,
-            PentachoronNumber(pent),
-            tri,
-        );
+        let dihedral = dihedral_in(complex, incidence, sq_lengths, PentachoronNumber(pent), tri);
         sum += dihedral.value();
         kind = first(kind, dihedral);
     }

@@ -4,16 +4,15 @@ use Rattle.std.specs.Option.{IsSome, MatchOption}
 use Rattle.std.specs.List.{AllWithin, HoldsAt}
 use Prim.Native.Nat.{ℕ, ◌+◌, ◌*◌, ◌/◌, ◌%◌, ◌≤◌, ◌<◌}
 use mathlib.Core.Path.{◌≡◌, refl, sym, ap, ◌∙◌, subst}
-use mathlib.Core.Logic.{⊎_elim}
 use mathlib.Core.Bool.{true}
 use mathlib.Core.List.{List, [], ◌∷◌, map, Memᴰ}
 use native.Mathlib.Omega.{arith}
-use lib.ListN.{length, get_or, take, drop, length-map, get_or-replicate}
+use lib.ListN.{length, get_or, take, drop, length-map}
 use borrow.Author.Tests.{eq-eqb, ne_eqb}
 use Rattle.lists.specs.Lists.{keep, gather, upto, combos, among, Within, Rising}
 use Rattle.lists.specs.Keys.{find}
 use Rattle.lists.specs.Rows.{flat, rows, Wide, starts, begins}
-use Rattle.lists.proofs.Tests.{said, passes, and-true, lt-or-ge}
+use Rattle.lists.proofs.Tests.{said, passes, and-true}
 use Rattle.lists.proofs.Elements.{get_or-mem, mem-get_or, get_or-map, length-gather, map-gather, among-says}
 use Rattle.lists.proofs.Keys.{find-get}
 use Rattle.lists.proofs.Choices.{combos-within, combos-rising, combos_has}

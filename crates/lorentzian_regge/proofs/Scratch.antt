@@ -80,7 +80,7 @@ module _ (c : Counts) (pents edges triangles items ss pe pt : List ℕ) (n : ℕ
       go false k =
           three-below (edges_at F t) (contribution_of (tri_lengths F ls t) (abs_area (tri_lengths F ls t)) (get_or ds t nan)) c.edges
           (length-map (combos s 2) (λ r. find r (edges_in c edges)) ∙ three-edges s (ok.simplices.triangle s (get_or-mem (triangles_in c triangles) t [] (rw (length-rows 3 c.triangles triangles) h))).1)
-          (edges-below c pents edges triangles items ss pe pt n ok t h (edges_at F t) refl c.edges (omega arith)) a k
+          (edges-below ok t h (edges_at F t) refl c.edges (omega arith)) a k
 
   -- the entries of a list that begins with zeros
   pub entries_over : (old zeros new : List Float) → zeros ≡ over (replicate c.edges zero) old → new ≡ scatter nan ◌⊕◌ (gather (contributions F ls ds) (upto c.triangles)) zeros → new ≡ over (gradient_of F ls ds) old

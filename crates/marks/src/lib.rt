@@ -66,6 +66,7 @@ pub fn list_marked(n: usize, marks: &[bool], list: &mut [u32])
     requires { (n ≤ length marks.now) × (n ≤ 81920) × (length (marked_below n marks.now) ≤ length list.old) }
     ensures { list.new ≡ over (marked_below n marks.now) list.old }
 {
+    // By a count, and no zip with `iter_mut`: of what is written through that a proof knows no element.
     let mut count = 0;
     let own = &marks[..n];
     for (t, mark) in own.iter().enumerate() {

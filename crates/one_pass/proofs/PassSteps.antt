@@ -22,9 +22,9 @@ use Rattle.complex.proofs.SortedPents.{five-of}
 use Rattle.complex.proofs.Meetings.{count-faces}
 use Rattle.lorentzian.specs.declared.dihedral.Dihedral.{Dihedral}
 use Rattle.lorentzian.specs.declared.dihedral.Dihedral.TheVariants.{Angle}
-use Rattle.lorentzian.specs.Dihedral.{kind_number}
+use Rattle.lorentzian.specs.Dihedral.{kind_number, pairs}
 use Rattle.hinges.specs.declared.hinge.Hinge.{Hinge}
-use Rattle.hinges.specs.Hinges.{FaceLists, byte_of, kind_in, plus, first, closed, pent_lengths, lengths_at, dihedral_of, local_pairs, without, dihedrals, pass_dihedrals, sums, first_kinds, hinges, deficits_of, kinds_of}
+use Rattle.hinges.specs.Hinges.{FaceLists, byte_of, kind_in, plus, first, closed, pent_lengths, lengths_at, dihedral_at, dihedral_of, local_pairs, without, dihedrals, pass_dihedrals, sums, first_kinds, hinges, deficits_of, kinds_of}
 use Rattle.hinges.specs.Parts.{Found}
 use Rattle.hinges.proofs.HingeKinds.{kind-byte}
 use Rattle.hinges.proofs.PentachoronSteps.{numbers-below}
@@ -35,13 +35,13 @@ use Rattle.one_pass.specs.Pass.{byte_of_first, ten_events}
 
 -- ten dihedrals and ten triangle numbers, paired off from both ends, are the pentachoron's
 five_events : (ts : List (List ℕ)) (s : List Float) (p : List ℕ) → length p ≡ 5
-    → ten_events (row_numbers ts 3 p) (map (dihedral_of s) local_pairs) ≡ map (λ lm. (find (without p lm) ts, dihedral_of s lm)) local_pairs
+    → ten_events (row_numbers ts 3 p) (pairs (dihedral_at s)) ≡ map (λ lm. (find (without p lm) ts, dihedral_of s lm)) local_pairs
 unfolding upto combos without keep among
 five_events ts s p h = rw (five-of p h) refl
 
 pub ten_events_lem : (F : FaceLists) (ls s : List Float) (p tris : List ℕ) (ds : List Dihedral) → length p ≡ 5 → tris ≡ row_numbers F.triangles 3 p
-    → s ≡ lengths_at ls (row_numbers F.edges 2 p) → ds ≡ map (dihedral_of s) local_pairs → ten_events tris ds ≡ dihedrals F ls p
-unfolding dihedrals pent_lengths
+    → s ≡ lengths_at ls (row_numbers F.edges 2 p) → ds ≡ pairs (dihedral_at s) → ten_events tris ds ≡ dihedrals F ls p
+unfolding dihedrals pent_lengths upto combos
 ten_events_lem F ls s p tris ds five et es ed = rw (ed, et, es) (five_events F.triangles (lengths_at ls (row_numbers F.edges 2 p)) p five)
 
 -- ---- the pass
@@ -63,8 +63,8 @@ module _ (F : FaceLists) (ls : List Float) (five : Wide 5 F.pents) (found : Foun
   unfolding dihedrals
   event-below p mp a m =
       let s = pent_lengths F ls p in
-      let n : Memᴰ a (ten_events (row_numbers F.triangles 3 p) (map (dihedral_of s) local_pairs)) = subst (λ (l : List (ℕ × Dihedral)). Memᴰ a l) (sym (five_events F.triangles s p (five p mp))) m in
-      let w = mathlib.Core.List.Memᴰ.of_map (λ k. (get_or (row_numbers F.triangles 3 p) (9 - k) 0, get_or (map (dihedral_of s) local_pairs) k (Angle nan))) (upto 10) n in
+      let n : Memᴰ a (ten_events (row_numbers F.triangles 3 p) (pairs (dihedral_at s))) = subst (λ (l : List (ℕ × Dihedral)). Memᴰ a l) (sym (five_events F.triangles s p (five p mp))) m in
+      let w = mathlib.Core.List.Memᴰ.of_map (λ k. (get_or (row_numbers F.triangles 3 p) (9 - k) 0, get_or (pairs (dihedral_at s)) k (Angle nan))) (upto 10) n in
       let l : length (row_numbers F.triangles 3 p) ≡ 10 = length-map (combos p 3) (λ s. find s F.triangles) ∙ count-faces Triangle p (five p mp) in
       subst (λ (i : ℕ). i < length F.triangles) (ap (λ (b : ℕ × Dihedral). b.0) w.2)
       (numbers-below F.triangles 3 p (λ s ms. found p s mp ms) (9 - w.0) (omega (arith, l, mem-upto 10 w.0 w.1)))

@@ -1,4 +1,5 @@
 // The table of hinges in one pass over the pentachorons: sums and first kinds, then deficits and kinds, in the same two lists.
+// Two lists and no list of pairs: they are lent over the C interface.
 #![tactic(auto)]
 
 ghost use Rattle.std.specs.Prelude.{◌≡◌, ◌++◌, map, ◌≤◌, ◌<◌, length, get_or, set, drop, replicate};
@@ -9,15 +10,14 @@ ghost use Rattle.lists.specs.Rows.{over};
 ghost use Rattle.lists.specs.Groups.{Below};
 ghost use Rattle.lists.specs.Loops.{scatter};
 ghost use Rattle.lorentzian.specs.Dihedral.{kind_number};
-ghost use Rattle.hinges.specs.Hinges.{faces_of, kind_in, plus, closed, dihedral_of, local_pairs, pass_dihedrals, hinges, deficits_of, kinds_of};
+ghost use Rattle.hinges.specs.Hinges.{faces_of, kind_in, plus, closed, pass_dihedrals, hinges, deficits_of, kinds_of};
 ghost use Rattle.hinges.specs.Parts.{IsPassable};
 ghost use Rattle.one_pass.specs.Pass.{byte_of_first, ten_events};
 
 use complex::{Complex, Incidence};
-use geometry::cm_cofactors;
 use hinges::{byte_of, closed, first, kind_in, pent_sq_lengths, zero_all};
 use incidence::{PentachoronNumber, TriangleNumber, pent_edge_indices, pent_tri_indices};
-use lorentzian::{Dihedral, compute_dihedral};
+use lorentzian::{Dihedral, compute_dihedral, ten_dihedrals};
 
 // ---- before the pass
 
@@ -26,38 +26,10 @@ fn clear_kinds(n: usize, kinds: &mut [u8])
     requires { n ≤ length kinds.old }
     ensures { kinds.new ≡ over (replicate n 2) kinds.old }
 {
-    let mut k = 0;
-    while k < n {
-        kinds[k] = byte_of(None);
-        k += 1;
-    }
+    kinds[..n].fill(byte_of(None));
 }
 
 // ---- the pass
-
-// The dihedrals of a pentachoron, opposite the pairs 01, 02, 03, 04, 12, 13, 14, 23, 24, 34.
-fn ten_dihedrals(s: &[f64; 10]) -> [Dihedral; 10]
-    ensures { result ≡ map (dihedral_of s.now) local_pairs }
-{
-    let c = cm_cofactors(s);
-    let c00 = c[0];
-    let c11 = c[5];
-    let c22 = c[9];
-    let c33 = c[12];
-    let c44 = c[14];
-    [
-        compute_dihedral(c[1], c00, c11),
-        compute_dihedral(c[2], c00, c22),
-        compute_dihedral(c[3], c00, c33),
-        compute_dihedral(c[4], c00, c44),
-        compute_dihedral(c[6], c11, c22),
-        compute_dihedral(c[7], c11, c33),
-        compute_dihedral(c[8], c11, c44),
-        compute_dihedral(c[10], c22, c33),
-        compute_dihedral(c[11], c22, c44),
-        compute_dihedral(c[13], c33, c44),
-    ]
-}
 
 // One dihedral more at a triangle.
 fn add_dihedral(tri: TriangleNumber, dihedral: Dihedral, sums: &mut [f64], kinds: &mut [u8])
@@ -76,10 +48,8 @@ fn add_ten(tris: &[u32], dihedrals: [Dihedral; 10], sums: &mut [f64], kinds: &mu
     ensures { (sums.new ≡ scatter nan plus (ten_events tris.now dihedrals) sums.old)
         × (kinds.new ≡ scatter 0 byte_of_first (ten_events tris.now dihedrals) kinds.old) }
 {
-    let mut k = 0;
-    while k < 10 {
-        add_dihedral(TriangleNumber(tris[9 - k]), dihedrals[k], sums, kinds);
-        k += 1;
+    for (k, dihedral) in dihedrals.iter().enumerate() {
+        add_dihedral(TriangleNumber(tris[9 - k]), *dihedral, sums, kinds);
     }
 }
 
@@ -96,14 +66,13 @@ fn add_all_dihedrals<'a>(
     ensures { (sums.new ≡ scatter nan plus (pass_dihedrals (faces_of complex.now) sq_lengths.now) sums.old)
         × (kinds.new ≡ scatter 0 byte_of_first (pass_dihedrals (faces_of complex.now) sq_lengths.now) kinds.old) }
 {
-    let mut p = 0u32;
-    while (p as usize) < complex.counts.pentachorons {
-        let pent = PentachoronNumber(p);
+    for p in 0..complex.counts.pentachorons {
+        let pent = PentachoronNumber(p as u32);
         let own = pent_edge_indices(complex, incidence, pent);
         let tris = pent_tri_indices(complex, incidence, pent);
         let s = pent_sq_lengths(own, sq_lengths);
-        add_ten(tris, ten_dihedrals(&s), sums, kinds);
-        p += 1;
+        let dihedrals = ten_dihedrals(&s, |c_lm, c_ll, c_mm| compute_dihedral(c_lm, c_ll, c_mm));
+        add_ten(tris, dihedrals, sums, kinds);
     }
 }
 
@@ -115,13 +84,11 @@ fn close_all(n: usize, sums: &mut [f64], kinds: &mut [u8])
     ensures { (sums.new ≡ map (λ t. (closed (kind_in (get_or kinds.old t 0)) (get_or sums.old t nan)).deficit) (upto n) ++ drop n sums.old)
         × (kinds.new ≡ map (λ t. kind_number (closed (kind_in (get_or kinds.old t 0)) (get_or sums.old t nan)).kind) (upto n) ++ drop n kinds.old) }
 {
-    let mut k = 0;
-    while k < n {
+    // By the index: of what is written through `iter_mut` a proof knows no element.
+    for k in 0..n {
         let hinge = closed(kind_in(kinds[k]), sums[k]);
-        let kind = hinge.kind;
         sums[k] = hinge.deficit;
-        kinds[k] = kind.number();
-        k += 1;
+        kinds[k] = hinge.kind.number();
     }
 }
 
@@ -142,8 +109,6 @@ pub fn write_table<'a>(
 {
     zero_all(complex.counts.triangles, deficits);
     clear_kinds(complex.counts.triangles, kinds);
-    add_all_dihedrals(
-        complex, incidence, sq_lengths, deficits, kinds,
-    );
+    add_all_dihedrals(complex, incidence, sq_lengths, deficits, kinds);
     close_all(complex.counts.triangles, deficits, kinds);
 }

@@ -1,7 +1,7 @@
 -- `marks::list_marked` meets its contract. Assumes nothing.
 use Rattle.std.proofs.Common.{get_or-take}
-use Prim.Native.Nat.{ℕ, ◌<◌}
-use mathlib.Core.Bool.{Bool, false}
+use Prim.Native.Nat.{◌<◌}
+use mathlib.Core.Bool.{false}
 use mathlib.Core.List.{[], ◌∷◌}
 use mathlib.Core.Path.{◌≡◌, refl, sym, ap, ◌∙◌}
 use native.Mathlib.Omega.{arith}

@@ -1,9 +1,7 @@
 -- `marks::mark_all` meets its contract. Assumes nothing.
 use mathlib.Core.Bool.{true}
 use mathlib.Core.Path.{refl, sym, ap, ◌∙◌}
-use native.Mathlib.Omega.{arith}
 use lib.ListN.{get_or, set}
-use lib.Seq.{take_all}
 use Rattle.marks.specs.Marks.{marked}
 use Rattle.marks.proofs.Marking.{marked_next}
 use Rattle.marks.proofs.mark_all.Goals as goal

@@ -4,7 +4,6 @@ use mathlib.Core.Path.{refl, sym, ap, ◌∙◌}
 use native.Mathlib.Omega.{arith}
 use lib.ListN.{length, get_or, take}
 use Rattle.lists.specs.Lists.{gather}
-use Rattle.complex.specs.Complex.{holding}
 use Rattle.marks.specs.Marks.{met, marked}
 use Rattle.marks.proofs.Marking.{marked_append, met_next, holding-below}
 use Rattle.marks.proofs.mark_met.Goals as goal

@@ -3,7 +3,6 @@ use Prim.Native.Nat.{suc}
 use mathlib.Core.Bool.{Bool, false, true}
 use mathlib.Core.Path.{refl, sym, ap, ◌∙◌}
 use native.Mathlib.Numerals.{add-one}
-use native.Mathlib.Omega.{arith}
 use lib.ListN.{get_or, set, take, drop, length-set, length-replicate}
 use lib.Seq.{take-suc, split_at}
 use Rattle.complex.specs.Builder.{repeats}

@@ -1,4 +1,5 @@
 -- `one_pass::add_all_dihedrals` meets its contract. Assumes nothing.
+use Rattle.std.proofs.Common.{rules}
 use Prim.Native.Nat.{◌<◌}
 use mathlib.Core.Path.{◌≡◌, refl, ap, ◌∙◌}
 use mathlib.Core.List.{[]}
@@ -10,7 +11,8 @@ use Rattle.lists.specs.Lists.{gather}
 use Rattle.lists.specs.Loops.{scatter}
 use Rattle.lists.proofs.Rows.{length-rows}
 use Rattle.complex.specs.Lent.{pents_of}
-use Rattle.hinges.specs.Hinges.{FaceLists, plus, dihedrals, pass_dihedrals, lengths_at, faces_of}
+use Rattle.lorentzian.specs.Dihedral.{pairs}
+use Rattle.hinges.specs.Hinges.{FaceLists, plus, dihedral_at, dihedrals, pass_dihedrals, lengths_at, faces_of}
 use Rattle.hinges.proofs.PentachoronSteps.{pent-five, own-edges, own-triangles}
 use Rattle.one_pass.specs.Pass.{byte_of_first, ten_events}
 use Rattle.one_pass.proofs.PassSteps.{ten_events_lem, pass-turn}
@@ -19,56 +21,35 @@ use Rattle.one_pass.proofs.add_all_dihedrals.Goals as goal
 
 pub loop-p-init : goal.loop-p-init
 unfolding gather scatter
-loop-p-init c = (omega arith, refl, refl, refl, refl)
-
-pub pent_edge_indices-own-requires : goal.pent_edge_indices-own-requires
-pent_edge_indices-own-requires c = (c.requires.0.edge_numbers, c.loop-p-test.true)
-
-pub pent_tri_indices-tris-requires : goal.pent_tri_indices-tris-requires
-pent_tri_indices-tris-requires c = (c.requires.0.tri_numbers, c.loop-p-test.true)
+loop-p-init c = (refl, refl)
 
 pub pent_sq_lengths-s-requires : goal.pent_sq_lengths-s-requires
-pent_sq_lengths-s-requires c =
-    let a = c.args in
-    own-edges a.complex.now.counts a.complex.now.pents.now a.complex.now.edges.now a.complex.now.triangles.now a.incidence.now.pent_edges.now a.incidence.now.pent_tris.now (length a.sq_lengths.now) c.requires.0 c.loop-p.p c.loop-p-test.true c.pent_edge_indices-own.result.now c.pent_edge_indices-own.ensures
+pent_sq_lengths-s-requires c = own-edges c.requires.0 c.loop-p.p c.loop-p-test.true c.pent_edge_indices-own.result.now c.pent_edge_indices-own.ensures
 
 pub add_ten-requires : goal.add_ten-requires
 add_ten-requires c =
-    let a = c.args in
     let r = c.requires in
     let l = c.loop-p in
-    let o = own-triangles a.complex.now.counts a.complex.now.pents.now a.complex.now.edges.now a.complex.now.triangles.now a.incidence.now.pent_edges.now a.incidence.now.pent_tris.now (length a.sq_lengths.now) r.0 l.p c.loop-p-test.true c.pent_tri_indices-tris.result.now c.pent_tri_indices-tris.ensures in
-    (o.0, o.1 (length l.sums) (omega (arith, r.1, l.invariant.1)), o.1 (length l.kinds) (omega (arith, r.2, l.invariant.2)))
-
-pub overflow_add-p : goal.overflow_add-p
-overflow_add-p c = omega (arith, c.requires.0.few, c.loop-p-test.true)
+    let o = own-triangles r.0 l.p c.loop-p-test.true c.pent_tri_indices-tris.result.now c.pent_tri_indices-tris.ensures in
+    (o.0, o.1 (length l.sums) (omega arith), o.1 (length l.kinds) (omega arith))
 
 pub loop-p-preserved : goal.loop-p-preserved
 loop-p-preserved c =
     let a = c.args in
-    let r = c.requires.0 in
     let l = c.loop-p in
     let f = c.add_ten in
     let s = c.pent_sq_lengths-s in
+    let d = c.ten_dihedrals-dihedrals in
+    let tris = c.pent_tri_indices-tris in
     let F : FaceLists = faces_of a.complex.now in
-    let p = get_or (pents_of a.complex.now) l.p [] in
     let h = c.loop-p-test.true in
     let in_list : l.p < length (pents_of a.complex.now) = rw (length-rows 5 a.complex.now.counts.pentachorons a.complex.now.pents.now) h in
-    let e : ten_events c.pent_tri_indices-tris.result.now c.ten_dihedrals.result ≡ dihedrals F a.sq_lengths.now p =
-    ten_events_lem F a.sq_lengths.now s.result p c.pent_tri_indices-tris.result.now c.ten_dihedrals.result (pent-five a.complex.now.counts a.complex.now.pents.now a.complex.now.edges.now a.complex.now.triangles.now a.incidence.now.pent_edges.now a.incidence.now.pent_tris.now (length a.sq_lengths.now) r l.p h) c.pent_tri_indices-tris.ensures
-    (s.ensures ∙ ap (lengths_at a.sq_lengths.now) c.pent_edge_indices-own.ensures) c.ten_dihedrals.ensures in (
-      omega arith,
-      f.auto.sums ∙ l.invariant.1,
-      f.auto.kinds ∙ l.invariant.2,
-      pass-turn nan plus F a.sq_lengths.now l.p (ten_events c.pent_tri_indices-tris.result.now c.ten_dihedrals.result) a.sums.now l.sums f.new.sums in_list e l.invariant.3 f.ensures.0,
-      pass-turn 0 byte_of_first F a.sq_lengths.now l.p (ten_events c.pent_tri_indices-tris.result.now c.ten_dihedrals.result) a.kinds.now l.kinds f.new.kinds in_list e l.invariant.4 f.ensures.1,
+    let ten : d.result ≡ pairs (dihedral_at s.result) = search rules in
+    let e : ten_events tris.result.now d.result ≡ dihedrals F a.sq_lengths.now (get_or (pents_of a.complex.now) l.p []) =
+    ten_events_lem F a.sq_lengths.now s.result _ tris.result.now d.result (pent-five c.requires.0 l.p h) tris.ensures (s.ensures ∙ ap (lengths_at a.sq_lengths.now) c.pent_edge_indices-own.ensures) ten in (
+      pass-turn nan plus F a.sq_lengths.now l.p (ten_events tris.result.now d.result) a.sums.now l.sums f.new.sums in_list e l.invariant.0 f.ensures.0,
+      pass-turn 0 byte_of_first F a.sq_lengths.now l.p (ten_events tris.result.now d.result) a.kinds.now l.kinds f.new.kinds in_list e l.invariant.1 f.ensures.1,
     )
-
-pub shape_of-sums : goal.shape_of-sums
-shape_of-sums c = c.loop-p.invariant.1
-
-pub shape_of-kinds : goal.shape_of-kinds
-shape_of-kinds c = c.loop-p.invariant.2
 
 pub returns : goal.returns
 unfolding pass_dihedrals
@@ -77,4 +58,4 @@ returns c =
     let l = c.loop-p in
     let F : FaceLists = faces_of a.complex.now in
     let e : before F a.sq_lengths.now l.p ≡ pass_dihedrals F a.sq_lengths.now = ap (gather (dihedrals F a.sq_lengths.now)) (take_all l.p F.pents (omega (arith, length-rows 5 a.complex.now.counts.pentachorons a.complex.now.pents.now))) in
-    (l.invariant.3 ∙ ap (λ es. scatter nan plus es a.sums.now) e, l.invariant.4 ∙ ap (λ es. scatter 0 byte_of_first es a.kinds.now) e)
+    (l.invariant.0 ∙ ap (λ es. scatter nan plus es a.sums.now) e, l.invariant.1 ∙ ap (λ es. scatter 0 byte_of_first es a.kinds.now) e)

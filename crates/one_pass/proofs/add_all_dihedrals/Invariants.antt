@@ -1,8 +1,8 @@
 -- `one_pass::add_all_dihedrals` meets its contract. Assumes nothing.
-use Prim.Native.Nat.{ℕ, ◌-◌, ◌≤◌}
+use Prim.Native.Nat.{ℕ}
 use mathlib.Core.Path.{◌≡◌}
 use mathlib.Core.List.{List}
-use lib.ListN.{length, take}
+use lib.ListN.{take}
 use lib.Ieee.{Float, nan}
 use Rattle.lists.specs.Lists.{gather}
 use Rattle.lists.specs.Loops.{scatter}
@@ -17,9 +17,5 @@ before F ls p = gather (dihedrals F ls) (take p F.pents)
 
 abbrev pub invariant-loop-p : goal.invariant-loop-p
 invariant-loop-p l =
-    (l.p ≤ l.complex.counts.pentachorons) × (length l.sums ≡ length l.initial.sums) × (length l.kinds ≡ length l.initial.kinds)
-    × (l.sums ≡ scatter nan plus (before (faces_of l.complex) l.sq_lengths l.p) l.initial.sums)
+    (l.sums ≡ scatter nan plus (before (faces_of l.complex) l.sq_lengths l.p) l.initial.sums)
     × (l.kinds ≡ scatter 0 byte_of_first (before (faces_of l.complex) l.sq_lengths l.p) l.initial.kinds)
-
-abbrev pub decreases-loop-p : goal.decreases-loop-p
-decreases-loop-p l = l.complex.counts.pentachorons - l.p

@@ -6,4 +6,4 @@ use Rattle.one_pass.proofs.add_dihedral.Goals as goal
 
 pub returns : goal.returns
 unfolding plus byte_of_first
-returns c = (rw c.value.ensures refl, rw (c.byte.ensures, c.or_kind_of.ensures, c.kind_in.ensures) refl)
+returns c = (rw c.value.ensures refl, rw (c.byte_of.ensures, c.first.ensures, c.kind_in.ensures) refl)

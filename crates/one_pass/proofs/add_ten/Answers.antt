@@ -15,7 +15,7 @@ use Rattle.one_pass.proofs.add_ten.Goals as goal
 
 pub loop-k-init : goal.loop-k-init
 unfolding upto scatter
-loop-k-init c = (omega arith, refl, refl, refl, refl)
+loop-k-init c = (refl, refl)
 
 pub add_dihedral-requires : goal.add_dihedral-requires
 add_dihedral-requires c =
@@ -29,21 +29,12 @@ loop-k-preserved c =
     let l = c.loop-k in
     let f = c.add_dihedral in
     let e = event a.tris.now a.dihedrals l.k in (
-      omega arith,
-      f.auto.sums ∙ l.invariant.1,
-      f.auto.kinds ∙ l.invariant.2,
-      f.ensures.0 ∙ ap (λ s. set s e.0 (plus (get_or s e.0 nan) e.1)) l.invariant.3 ∙ sym (rw (add-one l.k) (scatter-next nan plus (event a.tris.now a.dihedrals) a.sums.now l.k)),
-      f.ensures.1 ∙ ap (λ s. set s e.0 (byte_of_first (get_or s e.0 0) e.1)) l.invariant.4 ∙ sym (rw (add-one l.k) (scatter-next 0 byte_of_first (event a.tris.now a.dihedrals) a.kinds.now l.k)),
+      f.ensures.0 ∙ ap (λ s. set s e.0 (plus (get_or s e.0 nan) e.1)) l.invariant.0 ∙ sym (rw (add-one l.k) (scatter-next nan plus (event a.tris.now a.dihedrals) a.sums.now l.k)),
+      f.ensures.1 ∙ ap (λ s. set s e.0 (byte_of_first (get_or s e.0 0) e.1)) l.invariant.1 ∙ sym (rw (add-one l.k) (scatter-next 0 byte_of_first (event a.tris.now a.dihedrals) a.kinds.now l.k)),
     )
-
-pub shape_of-sums : goal.shape_of-sums
-shape_of-sums c = c.loop-k.invariant.1
-
-pub shape_of-kinds : goal.shape_of-kinds
-shape_of-kinds c = c.loop-k.invariant.2
 
 pub returns : goal.returns
 returns c =
     let l = c.loop-k in
     let e : l.k ≡ 10 = omega arith in
-    (rw e at l.invariant.3, rw e at l.invariant.4)
+    (rw e at l.invariant.0, rw e at l.invariant.1)

@@ -1,8 +1,8 @@
 -- `one_pass::add_ten` meets its contract. Assumes nothing.
-use Prim.Native.Nat.{ℕ, ◌-◌, ◌≤◌}
+use Prim.Native.Nat.{ℕ, ◌-◌}
 use mathlib.Core.Path.{◌≡◌}
 use mathlib.Core.List.{List, map}
-use lib.ListN.{length, get_or}
+use lib.ListN.{get_or}
 use lib.Ieee.{nan}
 use Rattle.lists.specs.Lists.{upto}
 use Rattle.lists.specs.Loops.{scatter}
@@ -18,9 +18,5 @@ event tris ds k = (get_or tris (9 - k) 0, get_or ds k (Angle nan))
 
 abbrev pub invariant-loop-k : goal.invariant-loop-k
 invariant-loop-k l =
-    (l.k ≤ 10) × (length l.sums ≡ length l.initial.sums) × (length l.kinds ≡ length l.initial.kinds)
-    × (l.sums ≡ scatter nan plus (map (event l.tris l.dihedrals) (upto l.k)) l.initial.sums)
-    × (l.kinds ≡ scatter 0 byte_of_first (map (event l.tris l.dihedrals) (upto l.k)) l.initial.kinds)
-
-abbrev pub decreases-loop-k : goal.decreases-loop-k
-decreases-loop-k l = 10 - l.k
+    (l.sums ≡ scatter nan plus (map (event l.tris l.dihedral-items) (upto l.k)) l.initial.sums)
+    × (l.kinds ≡ scatter 0 byte_of_first (map (event l.tris l.dihedral-items) (upto l.k)) l.initial.kinds)

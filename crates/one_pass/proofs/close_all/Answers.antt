@@ -3,7 +3,7 @@ use Prim.Native.Nat.{ℕ}
 use mathlib.Core.Path.{◌≡◌, refl, ◌∙◌}
 use native.Mathlib.Numerals.{add-one}
 use native.Mathlib.Omega.{arith}
-use lib.ListN.{get_or, length-set}
+use lib.ListN.{get_or}
 use lib.Ieee.{nan}
 use Rattle.lists.specs.Lists.{upto}
 use Rattle.lists.proofs.Rows.{map-turn, read_next}
@@ -14,31 +14,22 @@ use Rattle.one_pass.proofs.close_all.Goals as goal
 
 pub loop-k-init : goal.loop-k-init
 unfolding upto
-loop-k-init c = (omega arith, refl, refl, refl, refl)
+loop-k-init c = (refl, refl)
 
 pub loop-k-preserved : goal.loop-k-preserved
 loop-k-preserved c =
     let a = c.args in
     let l = c.loop-k in
     let f : ℕ → Hinge = closed_at a.sums.now a.kinds.now in
-    let b : get_or l.kinds l.k 0 ≡ get_or a.kinds.now l.k 0 = rw l.invariant.4 (read_next (λ t. kind_number (f t).kind) a.kinds.now l.k 0) in
-    let s : get_or l.sums l.k nan ≡ get_or a.sums.now l.k nan = rw l.invariant.3 (read_next (λ t. (f t).deficit) a.sums.now l.k nan) in
+    let b : get_or l.kinds l.k 0 ≡ get_or a.kinds.now l.k 0 = rw l.invariant.1 (read_next (λ t. kind_number (f t).kind) a.kinds.now l.k 0) in
+    let s : get_or l.sums l.k nan ≡ get_or a.sums.now l.k nan = rw l.invariant.0 (read_next (λ t. (f t).deficit) a.sums.now l.k nan) in
     let h : c.closed-hinge.result ≡ f l.k = c.closed-hinge.ensures ∙ rw (c.kind_in.ensures, b, s) refl in (
-      omega arith,
-      length-set l.sums l.k c.closed-hinge.result.deficit ∙ l.invariant.1,
-      length-set l.kinds l.k c.byte.result ∙ l.invariant.2,
-      rw (h, add-one l.k) (map-turn (λ t. (f t).deficit) a.sums.now l.sums l.k (omega arith) l.invariant.1 l.invariant.3),
-      rw (c.byte.ensures, h, add-one l.k) (map-turn (λ t. kind_number (f t).kind) a.kinds.now l.kinds l.k (omega arith) l.invariant.2 l.invariant.4),
+      rw (h, add-one l.k) (map-turn (λ t. (f t).deficit) a.sums.now l.sums l.k (omega arith) l.auto.sums l.invariant.0),
+      rw (c.number.ensures, h, add-one l.k) (map-turn (λ t. kind_number (f t).kind) a.kinds.now l.kinds l.k (omega arith) l.auto.kinds l.invariant.1),
     )
-
-pub shape_of-sums : goal.shape_of-sums
-shape_of-sums c = c.loop-k.invariant.1
-
-pub shape_of-kinds : goal.shape_of-kinds
-shape_of-kinds c = c.loop-k.invariant.2
 
 pub returns : goal.returns
 returns c =
     let l = c.loop-k in
     let e : l.k ≡ c.args.n = omega arith in
-    (rw e at l.invariant.3, rw e at l.invariant.4)
+    (rw e at l.invariant.0, rw e at l.invariant.1)

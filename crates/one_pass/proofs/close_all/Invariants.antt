@@ -1,8 +1,8 @@
 -- `one_pass::close_all` meets its contract. Assumes nothing.
-use Prim.Native.Nat.{ℕ, ◌-◌, ◌≤◌}
+use Prim.Native.Nat.{ℕ}
 use mathlib.Core.Path.{◌≡◌}
 use mathlib.Core.List.{List, ◌++◌, map}
-use lib.ListN.{length, get_or, drop}
+use lib.ListN.{get_or, drop}
 use lib.Ieee.{Float, nan}
 use Rattle.lists.specs.Lists.{upto}
 use Rattle.lorentzian.specs.Dihedral.{kind_number}
@@ -16,9 +16,5 @@ closed_at sums kinds t = closed (kind_in (get_or kinds t 0)) (get_or sums t nan)
 
 abbrev pub invariant-loop-k : goal.invariant-loop-k
 invariant-loop-k l =
-    (l.k ≤ l.n) × (length l.sums ≡ length l.initial.sums) × (length l.kinds ≡ length l.initial.kinds)
-    × (l.sums ≡ map (λ t. (closed_at l.initial.sums l.initial.kinds t).deficit) (upto l.k) ++ drop l.k l.initial.sums)
+    (l.sums ≡ map (λ t. (closed_at l.initial.sums l.initial.kinds t).deficit) (upto l.k) ++ drop l.k l.initial.sums)
     × (l.kinds ≡ map (λ t. kind_number (closed_at l.initial.sums l.initial.kinds t).kind) (upto l.k) ++ drop l.k l.initial.kinds)
-
-abbrev pub decreases-loop-k : goal.decreases-loop-k
-decreases-loop-k l = l.n - l.k

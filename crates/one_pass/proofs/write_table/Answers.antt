@@ -18,8 +18,8 @@ returns c =
     let e = c.close_all in
     let F : FaceLists = faces_of a.complex.now in
     let T : length (triangles_of a.complex.now) ≡ a.complex.now.counts.triangles = length-rows 3 a.complex.now.counts.triangles a.complex.now.triangles.now in (
-      table-deficits F a.sq_lengths.now (pents-wide a.complex.now.counts a.complex.now.pents.now a.complex.now.edges.now a.complex.now.triangles.now a.incidence.now.pent_edges.now a.incidence.now.pent_tris.now (length a.sq_lengths.now) r) r.triangles_found a.deficits.now z.new.list p.new.sums a.kinds.now n.new.kinds p.new.kinds
+      table-deficits F a.sq_lengths.now (pents-wide r) r.triangles_found a.deficits.now z.new.list p.new.sums a.kinds.now n.new.kinds p.new.kinds
           (rw T z.ensures) (rw T n.ensures) p.ensures.0 p.ensures.1 e.new.sums (rw T e.ensures.0),
-      table-kinds F a.sq_lengths.now (pents-wide a.complex.now.counts a.complex.now.pents.now a.complex.now.edges.now a.complex.now.triangles.now a.incidence.now.pent_edges.now a.incidence.now.pent_tris.now (length a.sq_lengths.now) r) r.triangles_found a.deficits.now z.new.list p.new.sums a.kinds.now n.new.kinds p.new.kinds
+      table-kinds F a.sq_lengths.now (pents-wide r) r.triangles_found a.deficits.now z.new.list p.new.sums a.kinds.now n.new.kinds p.new.kinds
           (rw T z.ensures) (rw T n.ensures) p.ensures.0 p.ensures.1 e.new.kinds (rw T e.ensures.1),
     )

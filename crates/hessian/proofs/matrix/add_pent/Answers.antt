@@ -9,12 +9,12 @@ use Rattle.hessian.proofs.matrix.add_pent.Goals as goal
 pub pent_sq_lengths-s-requires : goal.pent_sq_lengths-s-requires
 pent_sq_lengths-s-requires c =
     let a = c.args in
-    own-edges a.complex.now.counts a.complex.now.pents.now a.complex.now.edges.now a.complex.now.triangles.now a.incidence.now.pent_edges.now a.incidence.now.pent_tris.now (length a.sq_lengths.now) c.requires.0 a.pent.0 c.requires.1 c.pent_edge_indices-own.result.now c.pent_edge_indices-own.ensures
+    own-edges c.requires.0 a.pent.0 c.requires.1 c.pent_edge_indices-own.result.now c.pent_edge_indices-own.ensures
 
 pub places-at-requires : goal.places-at-requires
 places-at-requires c =
     let a = c.args in
-    (omega arith, (own-edges a.complex.now.counts a.complex.now.pents.now a.complex.now.edges.now a.complex.now.triangles.now a.incidence.now.pent_edges.now a.incidence.now.pent_tris.now (length a.sq_lengths.now) c.requires.0 a.pent.0 c.requires.1 c.pent_edge_indices-own.result.now c.pent_edge_indices-own.ensures).0)
+    (omega arith, (own-edges c.requires.0 a.pent.0 c.requires.1 c.pent_edge_indices-own.result.now c.pent_edge_indices-own.ensures).0)
 
 pub returns : goal.returns
 returns c =

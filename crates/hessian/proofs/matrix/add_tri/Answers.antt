@@ -10,13 +10,13 @@ use Rattle.hessian.proofs.matrix.add_tri.Goals as goal
 pub tri_sq_lengths-s-requires : goal.tri_sq_lengths-s-requires
 tri_sq_lengths-s-requires c =
     let a = c.args in
-    edges-below a.complex.now.counts a.complex.now.pents.now a.complex.now.edges.now a.complex.now.triangles.now a.complex.now.tri_to_pents.items.now a.complex.now.tri_to_pents.starts.now a.incidence.now.pent_edges.now a.incidence.now.pent_tris.now (length a.sq_lengths.now) c.requires.0 a.tri.0 c.requires.1 (edge_list c.tri_edge_indices-own.result) c.tri_edge_indices-own.ensures (length a.sq_lengths.now) (omega (arith, c.requires.0.passable.lengths))
+    edges-below c.requires.0 a.tri.0 c.requires.1 (edge_list c.tri_edge_indices-own.result) c.tri_edge_indices-own.ensures (length a.sq_lengths.now) (omega (arith, c.requires.0.passable.lengths))
 
 pub add_first-requires : goal.add_first-requires
 add_first-requires c =
     let a = c.args in
     let r = c.requires in
-    edges-below a.complex.now.counts a.complex.now.pents.now a.complex.now.edges.now a.complex.now.triangles.now a.complex.now.tri_to_pents.items.now a.complex.now.tri_to_pents.starts.now a.incidence.now.pent_edges.now a.incidence.now.pent_tris.now (length a.sq_lengths.now) r.0 a.tri.0 r.1 (edge_list c.tri_edge_indices-own.result) c.tri_edge_indices-own.ensures (length a.diagonal.now) r.2
+    edges-below r.0 a.tri.0 r.1 (edge_list c.tri_edge_indices-own.result) c.tri_edge_indices-own.ensures (length a.diagonal.now) r.2
 
 pub returns : goal.returns
 returns c =

@@ -1,9 +1,10 @@
 -- `hinges::triangle::dihedral_in` meets its contract. Assumes nothing.
-use mathlib.Core.Path.{refl, ◌∙◌}
+use Rattle.std.proofs.Common.{rules}
+use mathlib.Core.Path.{◌≡◌, refl, ◌∙◌}
 use mathlib.Core.List.{[]}
-use lib.ListN.{length, get_or}
+use lib.ListN.{get_or}
 use Rattle.complex.specs.Lent.{pents_of, triangles_of}
-use Rattle.hinges.specs.Hinges.{pent_lengths, dihedral_in}
+use Rattle.hinges.specs.Hinges.{dihedral_at, pent_lengths, dihedral_in}
 use Rattle.hinges.proofs.PentachoronSteps.{pent-five, own-edges}
 use Rattle.hinges.proofs.TriangleSteps.{opposite-below}
 use Rattle.hinges.proofs.triangle.dihedral_in.Goals as goal
@@ -14,17 +15,21 @@ pent_edge_indices-own-requires c = (c.requires.0.passable.edge_numbers, c.requir
 pub pent_sq_lengths-s-requires : goal.pent_sq_lengths-s-requires
 pent_sq_lengths-s-requires c =
     let a = c.args in
-    own-edges a.complex.now.counts a.complex.now.pents.now a.complex.now.edges.now a.complex.now.triangles.now a.incidence.now.pent_edges.now a.incidence.now.pent_tris.now (length a.sq_lengths.now) c.requires.0.passable a.pent.0 c.requires.1 c.pent_edge_indices-own.result.now c.pent_edge_indices-own.ensures
+    own-edges c.requires.0.passable a.pent.0 c.requires.1 c.pent_edge_indices-own.result.now c.pent_edge_indices-own.ensures
 
-pub opposite_local_indices-requires : goal.opposite_local_indices-requires
-opposite_local_indices-requires c = let r = c.requires in (r.0.simplices, r.0.passable.tri_numbers, r.1, r.2, r.3)
+pub opposite_local_indices-at-requires : goal.opposite_local_indices-at-requires
+opposite_local_indices-at-requires c = let r = c.requires in (r.0.simplices, r.0.passable.tri_numbers, r.1, r.2, r.3)
 
-pub dihedral_at-requires : goal.dihedral_at-requires
-dihedral_at-requires c =
+pub dihedral_at-requires-clause-in_range : goal.dihedral_at-requires-clause-in_range
+dihedral_at-requires-clause-in_range c =
     let a = c.args in
-    opposite-below (get_or (pents_of a.complex.now) a.pent.0 []) (get_or (triangles_of a.complex.now) a.tri.0 []) c.opposite_local_indices.result
-    (pent-five a.complex.now.counts a.complex.now.pents.now a.complex.now.edges.now a.complex.now.triangles.now a.incidence.now.pent_edges.now a.incidence.now.pent_tris.now (length a.sq_lengths.now) c.requires.0.passable a.pent.0 c.requires.1) c.opposite_local_indices.ensures
+    let at = c.opposite_local_indices-at in
+    opposite-below (get_or (pents_of a.complex.now) a.pent.0 []) (get_or (triangles_of a.complex.now) a.tri.0 []) at.result (pent-five c.requires.0.passable a.pent.0 c.requires.1) at.ensures
 
 pub returns : goal.returns
 unfolding dihedral_in pent_lengths
-returns c = c.dihedral_at.ensures ∙ rw (c.pent_sq_lengths-s.ensures, c.pent_edge_indices-own.ensures, ← c.opposite_local_indices.ensures) refl
+returns c =
+    let s = c.pent_sq_lengths-s in
+    let at = c.opposite_local_indices-at in
+    let e : c.dihedral_at.result ≡ dihedral_at s.result at.result.l at.result.m = search rules in
+    e ∙ rw (s.ensures, c.pent_edge_indices-own.ensures, ← at.ensures) refl

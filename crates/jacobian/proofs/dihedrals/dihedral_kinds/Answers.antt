@@ -3,7 +3,7 @@ use lib.Ieee.{nan}
 use Rattle.std.proofs.Common.{rules}
 use Rattle.lorentzian.specs.Dihedral.{kind_number_of}
 use Rattle.lorentzian.specs.declared.dihedral.Dihedral.TheVariants.{Angle}
-use Rattle.jacobian.proofs.Maps.{map-calls}
+use Rattle.geometry.proofs.Maps.{map-calls}
 use Rattle.jacobian.proofs.dihedrals.dihedral_kinds.Goals as goal
 
 pub returns : goal.returns

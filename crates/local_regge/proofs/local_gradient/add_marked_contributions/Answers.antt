@@ -33,7 +33,7 @@ pub tri_sq_lengths-s-requires : goal.tri_sq_lengths-s-requires
 tri_sq_lengths-s-requires c =
     let a = c.args in
     let r = c.requires.0 in
-    edges-below a.complex.now.counts a.complex.now.pents.now a.complex.now.edges.now a.complex.now.triangles.now a.complex.now.tri_to_pents.items.now a.complex.now.tri_to_pents.starts.now a.incidence.now.pent_edges.now a.incidence.now.pent_tris.now (length a.sq_lengths.now) r c.loop-t.t c.loop-t-test.true (edge_list c.tri_edge_indices-own.result) c.tri_edge_indices-own.ensures (length a.sq_lengths.now) (omega (arith, r.passable.lengths))
+    edges-below r c.loop-t.t c.loop-t-test.true (edge_list c.tri_edge_indices-own.result) c.tri_edge_indices-own.ensures (length a.sq_lengths.now) (omega (arith, r.passable.lengths))
 
 pub hinge_at-hinge-requires : goal.hinge_at-hinge-requires
 hinge_at-hinge-requires c = (c.requires.0, c.loop-t-test.true)
@@ -42,7 +42,7 @@ pub add_contributions-requires : goal.add_contributions-requires
 add_contributions-requires c =
     let a = c.args in
     let l = c.loop-t in
-    edges-below a.complex.now.counts a.complex.now.pents.now a.complex.now.edges.now a.complex.now.triangles.now a.complex.now.tri_to_pents.items.now a.complex.now.tri_to_pents.starts.now a.incidence.now.pent_edges.now a.incidence.now.pent_tris.now (length a.sq_lengths.now) c.requires.0 l.t c.loop-t-test.true (edge_list c.tri_edge_indices-own.result) c.tri_edge_indices-own.ensures (length l.entries) (omega (arith, c.requires.2, l.invariant.1))
+    edges-below c.requires.0 l.t c.loop-t-test.true (edge_list c.tri_edge_indices-own.result) c.tri_edge_indices-own.ensures (length l.entries) (omega (arith, c.requires.2, l.invariant.1))
 
 pub overflow_add-t : goal.overflow_add-t
 overflow_add-t c = omega (arith, c.requires.0.few, c.loop-t-test.true)

@@ -26,7 +26,7 @@ pub tri_sq_lengths-requires : goal.tri_sq_lengths-requires
 tri_sq_lengths-requires c =
     let a = c.args in
     let r = c.requires.0 in
-    edges-below a.complex.now.counts a.complex.now.pents.now a.complex.now.edges.now a.complex.now.triangles.now a.complex.now.tri_to_pents.items.now a.complex.now.tri_to_pents.starts.now a.incidence.now.pent_edges.now a.incidence.now.pent_tris.now (length a.sq_lengths.now) r c.loop-t.t c.loop-t-test.true (edge_list c.tri_edge_indices-own.result) c.tri_edge_indices-own.ensures (length a.sq_lengths.now) (omega (arith, r.passable.lengths))
+    edges-below r c.loop-t.t c.loop-t-test.true (edge_list c.tri_edge_indices-own.result) c.tri_edge_indices-own.ensures (length a.sq_lengths.now) (omega (arith, r.passable.lengths))
 
 pub bounds-deficits-t : goal.bounds-deficits-t
 bounds-deficits-t c = omega (arith, c.requires.1, c.loop-t-test.true)
