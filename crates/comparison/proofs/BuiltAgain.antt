@@ -87,7 +87,7 @@ answered-done (Err r) n given c e = absurd (let z : ◌≡◌ {A = ℕ} 0 1 = cc
 -- what a builder that answers with counts has answered and left
 pub builder-left : (n : ℕ) (given : List ℕ) (before after : Lists) (c : Counts) → Builds n given before (Ok c) after
     → (check_of n given (rooms_of before) ≡ Done) × (c ≡ counts_of n (sorted_pents given)) × (after ≡ over_all (written (sorted_pents given)) before)
-builder-left n given before after c b =
+builder-left n given before _ c b =
     let d = answered-done (check_of n given (rooms_of before)) n given c b.answered in
     (d.0, d.1, b.left ∙ ap (λ (o : Outcome). lists_after o given before) d.0)
 

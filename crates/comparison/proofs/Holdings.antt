@@ -1,4 +1,4 @@
--- AdjacencyList lists that are checked and not built: parts of rising numbers of rows in which a key lies, as many as there are in all, are the lists of all such rows. Assumes nothing.
+-- Adjacency lists that are checked and not built: parts of rising numbers of rows in which a key lies, as many as there are in all, are the lists of all such rows. Assumes nothing.
 use Prim.Native.Nat.{ℕ, suc, ◌+◌, ◌*◌, ◌/◌, ◌≤◌, ◌<◌}
 use mathlib.Core.Path.{◌≡◌, refl, sym, ap, ◌∙◌, subst}
 use mathlib.Core.Bool.{true, ◌&&◌}
@@ -10,45 +10,32 @@ use native.Mathlib.Numerals.{add-one}
 use lib.Dec.{leb, ltb}
 use lib.ListN.{length, get_or, take, drop, length-map}
 use lib.Seq.{drop-cons}
-use borrow.Author.Tests.{le-leb, lt-ltb}
-use Rattle.lists.specs.Lists.{gather, upto, combos, among, within, Within, Rising}
+use Rattle.lists.specs.Lists.{gather, upto, combos, within, Within, Rising}
 use Rattle.lists.specs.Keys.{find}
-use Rattle.lists.specs.Rows.{flat, rows, Wide, starts, begins}
+use Rattle.lists.specs.Rows.{flat, Wide, starts, begins}
 use Rattle.lists.specs.Groups.{Below}
 use Rattle.lists.specs.GroupSteps.{order}
 use Rattle.lists.proofs.Tests.{Says, pass, leb-says, ltb-says, and-says, both-says, said, passes}
-use Rattle.lists.proofs.Elements.{get_or-mem, mem-gather, length-gather, length-upto, mem-upto, get_or-table, map-upto, map_same, within-says, Sub, rising-sub}
+use Rattle.lists.proofs.Elements.{get_or-mem, mem-gather, length-gather, length-upto, mem-upto, get_or-table, map-upto, within-says, Sub, rising-sub}
 use Rattle.lists.proofs.Keys.{find-mem}
-use Rattle.lists.proofs.Rows.{length-rows, row_part, row-part, length-starts, starts_first, starts-last, begins-says, begins-long, part, Splits, flat-parts, length-parts, starts-parts, flat-sub, begun-start, begun-fits, begun-part}
+use Rattle.lists.proofs.Rows.{length-rows, length-starts, starts_first, starts-last, begins-says, begins-long, part, Splits, flat-parts, length-parts, starts-parts, flat-sub, begun-start, begun-fits, begun-part}
 use Rattle.lists.proofs.Grouped.{flat-groups, order-full}
-use Rattle.comparison.specs.declared.holding.Shape.{Shape}
+use Rattle.comparison.specs.declared.flat_rows.Rows.{Rows}
 use Rattle.complex.specs.Complex.{holding, edges, triangles, row_numbers}
 use Rattle.complex.specs.Check.{holds}
 use Rattle.comparison.specs.CheckParts.{lying, part_lies}
-use Rattle.comparison.specs.Parts.{Holdable}
+use Rattle.comparison.specs.Parts.{rows_of, Holdable}
 use Rattle.complex.proofs.Lying.{Sorted, Keyed, mem-holding, holding-mem, groups-holding}
 use Rattle.complex.proofs.Laws.{holding-rising}
 use Rattle.complex.proofs.FaceNumbers.{keyed-triangles, keyed-edges, keyed-triangle-edges}
 
 -- ---- the turns of the loops
 
-pub within-turn : (s p : List ℕ) (i : ℕ) → i < length s → within (drop i s) p ≡ (among (get_or s i 0) p && within (drop (i + 1) s) p)
-unfolding within
-within-turn s p i h = rw (drop-cons s i 0 h, add-one i) refl
-
 pub lying-turn : (rs : List (List ℕ)) (s : List ℕ) (lo : ℕ) (is : List ℕ) (k : ℕ) → k < length is
     → lying rs s lo (drop k is)
     ≡ (leb lo (get_or is k 0) && ltb (get_or is k 0) (length rs) && within s (get_or rs (get_or is k 0) []) && lying rs s (get_or is k 0 + 1) (drop (k + 1) is))
 unfolding lying
 lying-turn rs s lo is k h = rw (drop-cons is k 0 h, add-one k) refl
-
--- the turn at an item that is not below lo and is the number of one of n rows of w numbers
-pub lying-row : (w n : ℕ) (xs s : List ℕ) (lo : ℕ) (is : List ℕ) (k : ℕ) → k < length is → lo ≤ get_or is k 0 → get_or is k 0 < n
-    → lying (rows w n xs) s lo (drop k is)
-    ≡ (within s (row_part w xs (get_or is k 0)) && lying (rows w n xs) s (get_or is k 0 + 1) (drop (k + 1) is))
-lying-row w n xs s lo is k h a b =
-    let i = get_or is k 0 in
-    lying-turn (rows w n xs) s lo is k h ∙ rw (le-leb lo i a, length-rows w n xs, lt-ltb i n b, row-part w n xs i b) refl
 
 -- ---- numbers of rows in which a simplex lies
 
@@ -167,18 +154,14 @@ module _ (rs : List (List ℕ)) (key : ℕ → List ℕ) (n : ℕ) (items ss : L
   parts_say = and-says tested items_begin starts_begin (begins-says (flat all) items) (begins-says (starts all) ss)
 
 -- the check of lists says that they are those of all rows
-pub holds-says : {keys list : List ℕ} {k s : Shape} {total : ℕ} → Holdable keys k list s total → (items ss : List ℕ)
-    → Says (Tested (rows s.width s.count list) (row_part k.width keys) k.count total items ss)
-    (holds (rows s.width s.count list) (rows k.width k.count keys) items ss)
+pub holds-says : {keys rs : Rows} {total : ℕ} → Holdable keys rs total → (items ss : List ℕ)
+    → Says (Tested (rows_of rs) (λ j. get_or (rows_of keys) j []) keys.count total items ss) (holds (rows_of rs) (rows_of keys) items ss)
 unfolding holds all
-holds-says {keys} {list} {k} {s} h items ss =
-    let rs = rows s.width s.count list in
-    let e : map (holding rs) (rows k.width k.count keys) ≡ map (λ j. holding rs (row_part k.width keys j)) (upto k.count) =
-    map-upto (holding rs) (rows k.width k.count keys) [] []
-    ∙ ap (λ (n : ℕ). map (λ j. holding rs (get_or (rows k.width k.count keys) j [])) (upto n)) (length-rows k.width k.count keys)
-    ∙ map_same (λ j. holding rs (get_or (rows k.width k.count keys) j [])) (λ j. holding rs (row_part k.width keys j)) (upto k.count)
-    (λ j m. ap (holding rs) (row-part k.width k.count keys j (mem-upto k.count j m))) in
-    rw (h.counted, e) (parts_say rs (row_part k.width keys) k.count items ss)
+holds-says {keys} {rs} h items ss =
+    let e : map (holding (rows_of rs)) (rows_of keys) ≡ map (λ j. holding (rows_of rs) (get_or (rows_of keys) j [])) (upto keys.count) =
+    map-upto (holding (rows_of rs)) (rows_of keys) [] []
+    ∙ ap (λ (n : ℕ). map (λ j. holding (rows_of rs) (get_or (rows_of keys) j [])) (upto n)) (length-rows keys.width keys.count keys.list.now) in
+    rw (h.counted, e) (parts_say (rows_of rs) (λ j. get_or (rows_of keys) j []) keys.count items ss)
 
 -- ---- how many rows the keys lie in
 

@@ -1,16 +1,16 @@
 -- Pentachorons that rise: what the test of their vertices says. Assumes nothing.
-use Prim.Native.Nat.{ℕ, suc, ◌+◌, ◌*◌, ◌-◌, ◌<◌}
-use mathlib.Core.Path.{◌≡◌, refl, ap, ◌∙◌}
+use Prim.Native.Nat.{ℕ, ◌<◌}
+use mathlib.Core.Path.{◌≡◌, refl}
 use mathlib.Core.Bool.{Bool, ◌&&◌}
 use mathlib.Core.Logic.{⊎_elim}
 use mathlib.Core.List.Memᴰ
 use mathlib.Core.List.{List, [], ◌∷◌, Memᴰ}
 use native.Mathlib.Omega.{arith}
-use lib.ListN.{take, drop}
-use lib.Seq.{drop-drop}
+use lib.Dec.{ltb}
+use lib.ListN.{length, get_or}
 use Rattle.lists.specs.Lists.{Rising}
-use Rattle.lists.specs.Rows.{rows}
 use Rattle.lists.proofs.Tests.{Says, pass, fail, ltb-says, and-says}
+use Rattle.complex.proofs.SortedPents.{five-of}
 use Rattle.comparison.specs.CheckParts.{rises, all_rise}
 
 -- a rising list of vertices below n
@@ -36,6 +36,13 @@ rises-says n (v ∷ w ∷ p) =
     (ltb-says v w)
     (rises-says n (w ∷ p))
 
+-- the test at five vertices
+pub rises_five : (n : ℕ) (p : List ℕ) → length p ≡ 5
+    → rises n p
+    ≡ (ltb (get_or p 0 0) (get_or p 1 0) && (ltb (get_or p 1 0) (get_or p 2 0) && (ltb (get_or p 2 0) (get_or p 3 0) && (ltb (get_or p 3 0) (get_or p 4 0) && ltb (get_or p 4 0) n))))
+unfolding rises
+rises_five n p h = rw (five-of p h) refl
+
 -- every pentachoron does
 abbrev pub AllRise : ℕ → List (List ℕ) → Type 0
 AllRise n ps = (p : List ℕ) → Memᴰ p ps → RisesBelow n p
@@ -50,13 +57,3 @@ all-rise-says n (p ∷ ps) =
     (λ h q m. h q (Memᴰ.tail m))
     (rises-says n p)
     (all-rise-says n ps)
-
--- the turn at the pentachoron k of c
-pub rise-turn : (n k c : ℕ) (xs : List ℕ) → k < c
-    → all_rise n (rows 5 (c - k) (drop (5 * k) xs)) ≡ (rises n (take 5 (drop (5 * k) xs)) && all_rise n (rows 5 (c - (k + 1)) (drop (5 * (k + 1)) xs)))
-unfolding all_rise rows
-rise-turn n k c xs h =
-    let a : c - k ≡ suc (c - (k + 1)) = omega arith in
-    let e : 5 * k + 5 ≡ 5 * (k + 1) = omega arith in
-    let b : drop 5 (drop (5 * k) xs) ≡ drop (5 * (k + 1)) xs = drop-drop 5 (5 * k) xs ∙ ap (λ (m : ℕ). drop m xs) e in
-    rw (a, ← b) refl

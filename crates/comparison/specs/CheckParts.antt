@@ -6,6 +6,7 @@ use Rattle.complex.specs.declared.Counts.{Counts}
 use Rattle.complex.specs.declared.numbering.Face.{Face}
 use Rattle.complex.specs.declared.numbering.Face.TheVariants.{Edge, Triangle, Tet}
 use Rattle.complex.specs.Complex.{faces, edges, triangles}
+use Rattle.complex.specs.Builder.{Lists}
 use Rattle.complex.specs.Check.{pents_in, holds}
 
 -- ---- pentachorons
@@ -22,10 +23,10 @@ all_rise n [] = true
 all_rise n (p ∷ ps) = rises n p && all_rise n ps
 
 -- there is a sorted pentachoron list that the builder takes
-unfoldable pub has_pents : Counts → List ℕ → Bool
-has_pents c pents =
-    not (eqb c.vertices 0) && leb c.vertices 4096 && leb c.pentachorons 8192 && leb (5 * c.pentachorons) (length pents)
-    && all_rise c.vertices (pents_in c pents)
+unfoldable pub has_pents : Counts → Lists → Bool
+has_pents c l =
+    not (eqb c.vertices 0) && leb c.vertices 4096 && leb c.pentachorons 8192 && leb (5 * c.pentachorons) (length l.pents)
+    && all_rise c.vertices (pents_in c l.pents)
 
 -- ---- faces
 
@@ -34,8 +35,10 @@ unfoldable pub has_faces : Face → List (List ℕ) → ℕ → List ℕ → Boo
 has_faces f ps n list = eqb n (length (faces f ps)) && begins (flat (faces f ps)) list
 
 -- the three lists of faces do
-unfoldable pub has_all_faces : Counts → List (List ℕ) → List ℕ → List ℕ → List ℕ → Bool
-has_all_faces c ps es ts ks = has_faces Tet ps c.tets ks && has_faces Edge ps c.edges es && has_faces Triangle ps c.triangles ts
+unfoldable pub has_all_faces : Counts → Lists → Bool
+has_all_faces c l =
+    let ps = pents_in c l.pents in
+    has_faces Tet ps c.tets l.tets && has_faces Edge ps c.edges l.edges && has_faces Triangle ps c.triangles l.triangles
 
 -- ---- adjacency
 
@@ -51,5 +54,8 @@ part_lies rs s items ss j =
     && lying rs s 0 (take (get_or ss (j + 1) 0 - get_or ss j 0) (drop (get_or ss j 0) items))
 
 -- the three adjacency lists are those of the pentachorons and their faces
-unfoldable pub has_adjacency : List (List ℕ) → List ℕ → List ℕ → List ℕ → List ℕ → List ℕ → List ℕ → Bool
-has_adjacency ps tp tps et ets ep eps = holds ps (triangles ps) tp tps && holds (triangles ps) (edges ps) et ets && holds ps (edges ps) ep eps
+unfoldable pub has_adjacency : Counts → Lists → Bool
+has_adjacency c l =
+    let ps = pents_in c l.pents in
+    holds ps (triangles ps) l.tri_to_pents l.tri_to_pents_starts && holds (triangles ps) (edges ps) l.edge_to_tris l.edge_to_tris_starts
+    && holds ps (edges ps) l.edge_to_pents l.edge_to_pents_starts

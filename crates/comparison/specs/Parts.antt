@@ -6,8 +6,9 @@ use Rattle.lists.specs.Rows.{flat, rows, over, begins}
 use Rattle.complex.specs.declared.Counts.{Counts}
 use Rattle.complex.specs.declared.numbering.Face.TheVariants.{Edge, Triangle}
 use Rattle.complex.specs.Complex.{numbers_of, holding}
+use Rattle.complex.specs.Builder.{Lists}
 use Rattle.complex.specs.Check.{pents_in}
-use Rattle.comparison.specs.declared.holding.Shape.{Shape}
+use Rattle.comparison.specs.declared.flat_rows.Rows.{Rows}
 use Rattle.comparison.specs.CheckParts.{has_faces}
 
 -- whole pentachorons, and room for ten numbers of each
@@ -30,16 +31,18 @@ pub record Noting (ps : List (List ℕ)) (r : Bool) (pe pt pe' pt' : List ℕ) :
   pub edges_kept : drop (10 * length ps) pe' ≡ drop (10 * length ps) pe
   pub triangles_kept : drop (10 * length ps) pt' ≡ drop (10 * length ps) pt
 
--- keys and rows lie in their lists, and the total is how many rows the keys lie in, one key after the other
-pub record Holdable (keys : List ℕ) (k : Shape) (list : List ℕ) (s : Shape) (total : ℕ) : Type 0 where
-  pub keys_room : k.width * k.count ≤ length keys
-  pub rows_room : s.width * s.count ≤ length list
-  pub counted : total ≡ length (flat (map (holding (rows s.width s.count list)) (rows k.width k.count keys)))
+-- the rows of a lent list
+abbrev pub rows_of : Rows → List (List ℕ)
+rows_of r = rows r.width r.count r.list.now
+
+-- the total is how many rows the keys lie in, one key after the other
+pub record Holdable (keys rs : Rows) (total : ℕ) : Type 0 where
+  pub counted : total ≡ length (flat (map (holding (rows_of rs)) (rows_of keys)))
 
 -- the lists of faces are those of sorted pentachorons
-pub record Faced (c : Counts) (pents es ts : List ℕ) : Type 0 where
-  pub long : 5 * c.pentachorons ≤ length pents
+pub record Faced (c : Counts) (l : Lists) : Type 0 where
+  pub long : 5 * c.pentachorons ≤ length l.pents
   pub few : c.pentachorons ≤ 8192
-  pub rise : (p : List ℕ) → Memᴰ p (pents_in c pents) → Rising p
-  pub edges : has_faces Edge (pents_in c pents) c.edges es ≡ true
-  pub triangles : has_faces Triangle (pents_in c pents) c.triangles ts ≡ true
+  pub rise : (p : List ℕ) → Memᴰ p (pents_in c l.pents) → Rising p
+  pub edges : has_faces Edge (pents_in c l.pents) c.edges l.edges ≡ true
+  pub triangles : has_faces Triangle (pents_in c l.pents) c.triangles l.triangles ≡ true

@@ -9,7 +9,8 @@ use complex::Face;
 use lists::match_rows;
 
 // Whether `list` begins with the faces of all pentachorons, numbered by first meeting, and n_faces is their count. `next`
-// links the chains of the search; `numbers` gets the number of each face as it is met, and is kept after these.
+// links the chains of the search; `numbers` gets the number of each face as it is met, and is kept after these. The list is no
+// `Rows`: whether it has so many is tested here.
 pub fn has_faces(
     face: Face,
     pents: &[u32],
@@ -26,16 +27,12 @@ pub fn has_faces(
     let pentachorons = pents.len() / 5;
     let w = face.width();
     let count = face.count();
-    if count * pentachorons < n_faces {
-        return false;
-    }
-    if list.len() < w * n_faces {
+    if count * pentachorons < n_faces || list.len() < w * n_faces {
         return false;
     }
     let mut head = [0u32; 32768];
     let mut n = 0;
-    let mut k = 0;
-    while k < pentachorons {
+    for k in 0..pentachorons {
         let given = face.rows_at(pents, 5 * k);
         let Some(met) = match_rows(
             list,
@@ -52,7 +49,6 @@ pub fn has_faces(
             return false;
         };
         n = met;
-        k += 1;
     }
     n == n_faces
 }

@@ -2,10 +2,11 @@
 #![tactic(auto)]
 
 mod faces;
+mod flat_rows;
 mod holding;
 
-ghost use Rattle.std.specs.Prelude.{◌≡◌, ◌+◌, ◌*◌, ◌/◌, ◌≤◌, length, take, drop};
-ghost use Rattle.lists.specs.Rows.{rows};
+ghost use Rattle.std.specs.Prelude.{◌≡◌, ◌*◌, ◌≤◌, length};
+ghost use Rattle.complex.specs.Builder.{pentachorons};
 ghost use Rattle.complex.specs.Check.{is_built, Checked};
 ghost use Rattle.complex.specs.Lent.{lists_of, pents_of};
 ghost use Rattle.comparison.specs.CheckParts.{rises, all_rise, has_pents, has_all_faces, has_adjacency};
@@ -13,91 +14,112 @@ ghost use Rattle.comparison.specs.Parts.{Scratch, Noting, Faced};
 
 use complex::{Complex, Face};
 use faces::has_faces;
-use holding::{Shape, is_holding};
-use lists::copy_row;
+use flat_rows::Rows;
+use holding::is_holding;
 use refusals::Refusal;
 
-// Whether the vertices of the pentachoron at `at` rise, and the last is below n.
-fn rises_at(n: usize, pents: &[u32], at: usize) -> bool
-    requires { at + 5 ≤ length pents.now }
-    ensures { result ≡ rises n (take 5 (drop at pents.now)) }
+// Whether the vertices of a pentachoron rise, and the last is below n.
+#[tactic(auto, using(crate::proofs::Rises::rises_five))]
+fn vertices_rise(n: usize, pent: &[u32]) -> bool
+    requires { length pent.now ≡ 5 }
+    ensures { result ≡ rises n pent.now }
 {
-    let a = pents[at];
-    let b = pents[at + 1];
-    let c = pents[at + 2];
-    let d = pents[at + 3];
-    let e = pents[at + 4];
-    (a < b) & ((b < c) & ((c < d) & ((d < e) & ((e as usize) < n))))
+    pent[0] < pent[1]
+        && pent[1] < pent[2]
+        && pent[2] < pent[3]
+        && pent[3] < pent[4]
+        && (pent[4] as usize) < n
 }
 
 // Whether the vertices of every pentachoron do.
 fn all_rise(n: usize, pents: &[u32]) -> bool
-    ensures { result ≡ all_rise n (rows 5 (length pents.now / 5) pents.now) }
+    ensures { result ≡ all_rise n (pentachorons pents.now) }
 {
-    let count = pents.len() / 5;
-    let mut k = 0;
-    while k < count {
-        if !rises_at(n, pents, 5 * k) {
+    for pent in pents.chunks_exact(5) {
+        if !vertices_rise(n, pent) {
             return false;
         }
-        k += 1;
     }
     true
 }
 
 // Whether there is a sorted pentachoron list that the builder takes.
+#[tactic(auto, unfolding(crate::specs::CheckParts::has_pents))]
 fn has_pents(complex: &Complex<'_>) -> bool
-    ensures { result ≡ has_pents complex.now.counts complex.now.pents.now }
+    ensures { result ≡ has_pents complex.now.counts (lists_of complex.now) }
 {
     let counts = complex.counts;
     if counts.vertices == 0 || 4096 < counts.vertices || 8192 < counts.pentachorons {
         return false;
     }
     let len = 5 * counts.pentachorons;
-    if complex.pents.len() < len {
-        return false;
-    }
-    all_rise(counts.vertices, &complex.pents[..len])
+    len <= complex.pents.len() && all_rise(counts.vertices, &complex.pents[..len])
 }
 
 // Whether the lists of faces are those of the pentachorons. The numbers of their edges and triangles are noted (`Noting`).
 fn has_all_faces(complex: &Complex<'_>, pent_edges: &mut [u32], pent_tris: &mut [u32]) -> bool
     requires long { 5 * complex.now.counts.pentachorons ≤ length complex.now.pents.now }
     requires scratch { Scratch (5 * complex.now.counts.pentachorons) (length pent_edges.old) (length pent_tris.old) }
-    ensures value { result ≡ has_all_faces complex.now.counts (pents_of complex.now) complex.now.edges.now complex.now.triangles.now complex.now.tets.now }
+    ensures value { result ≡ has_all_faces complex.now.counts (lists_of complex.now) }
     ensures noting { Noting (pents_of complex.now) result pent_edges.old pent_tris.old pent_edges.new pent_tris.new }
 {
     let mut next = [0u32; 81920];
     let counts = complex.counts;
     let pents = &complex.pents[..5 * counts.pentachorons];
-    has_faces(Face::Tet, pents, counts.tets, complex.tets, &mut next, pent_tris)
-        && has_faces(Face::Edge, pents, counts.edges, complex.edges, &mut next, pent_edges)
-        && has_faces(Face::Triangle, pents, counts.triangles, complex.triangles, &mut next, pent_tris)
+    has_faces(
+        Face::Tet,
+        pents,
+        counts.tets,
+        complex.tets,
+        &mut next,
+        pent_tris,
+    ) && has_faces(
+        Face::Edge,
+        pents,
+        counts.edges,
+        complex.edges,
+        &mut next,
+        pent_edges,
+    ) && has_faces(
+        Face::Triangle,
+        pents,
+        counts.triangles,
+        complex.triangles,
+        &mut next,
+        pent_tris,
+    )
 }
 
 // Whether the adjacency lists are those of the pentachorons and their faces.
 fn has_adjacency(complex: &Complex<'_>) -> bool
-    requires { Faced complex.now.counts complex.now.pents.now complex.now.edges.now complex.now.triangles.now }
-    ensures { result ≡ has_adjacency (pents_of complex.now) complex.now.tri_to_pents.items.now complex.now.tri_to_pents.starts.now
-        complex.now.edge_to_tris.items.now complex.now.edge_to_tris.starts.now complex.now.edge_to_pents.items.now complex.now.edge_to_pents.starts.now }
+    requires { Faced complex.now.counts (lists_of complex.now) }
+    ensures { result ≡ has_adjacency complex.now.counts (lists_of complex.now) }
 {
     let counts = complex.counts;
     let met = 10 * counts.pentachorons;
-    let by_fives = Shape {
+    let pents = Rows {
         width: 5,
         count: counts.pentachorons,
+        list: complex.pents,
     };
-    let by_twos = Shape {
+    let edges = Rows {
         width: 2,
         count: counts.edges,
+        list: complex.edges,
     };
-    let by_threes = Shape {
+    let triangles = Rows {
         width: 3,
         count: counts.triangles,
+        list: complex.triangles,
     };
-    is_holding(complex.triangles, by_threes, complex.pents, by_fives, &complex.tri_to_pents, met)
-        && is_holding(complex.edges, by_twos, complex.triangles, by_threes, &complex.edge_to_tris, 3 * counts.triangles)
-        && is_holding(complex.edges, by_twos, complex.pents, by_fives, &complex.edge_to_pents, met)
+    is_holding(&triangles, &pents, &complex.tri_to_pents, met)
+        && is_holding(
+            &edges,
+            &triangles,
+            &complex.edge_to_tris,
+            3 * counts.triangles,
+        )
+        && is_holding(&edges, &pents, &complex.edge_to_pents, met)
 }
 
 // Whether a complex is built, for a caller with scratch of its own: where it is, the numbers of the edges and triangles of each
@@ -107,19 +129,14 @@ pub fn is_built_noting(complex: &Complex<'_>, pent_edges: &mut [u32], pent_tris:
     ensures value { result ≡ is_built complex.now.counts (lists_of complex.now) }
     ensures noting { Noting (pents_of complex.now) result pent_edges.old pent_tris.old pent_edges.new pent_tris.new }
 {
-    if !has_pents(complex) {
-        return false;
-    }
-    if !has_all_faces(complex, pent_edges, pent_tris) {
-        return false;
-    }
-    has_adjacency(complex)
+    has_pents(complex) && has_all_faces(complex, pent_edges, pent_tris) && has_adjacency(complex)
 }
 
 // Whether a complex is built: its counts and lists are what the builder answers and writes.
 pub fn is_built(complex: &Complex<'_>) -> bool
     ensures { result ≡ is_built complex.now.counts (lists_of complex.now) }
 {
+    // Fixed memory: each of the two calls with no scratch of the caller's brings its own.
     let mut edge_numbers = [0u32; 81920];
     let mut tri_numbers = [0u32; 81920];
     is_built_noting(complex, &mut edge_numbers, &mut tri_numbers)
@@ -143,7 +160,7 @@ pub fn check_built(
     if pent_edges.len() < met || pent_tris.len() < met {
         return Err(Refusal::ShortRoom);
     }
-    copy_row(pent_edges, 0, &edge_numbers[..met]);
-    copy_row(pent_tris, 0, &tri_numbers[..met]);
+    pent_edges[..met].copy_from_slice(&edge_numbers[..met]);
+    pent_tris[..met].copy_from_slice(&tri_numbers[..met]);
     Ok(())
 }

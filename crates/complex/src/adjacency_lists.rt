@@ -21,6 +21,7 @@ const TRI_EDGES: [[usize; 3]; 10] = [
 ];
 
 // The number of edge i of the triangle that is met as the k-th.
+#[tactic(auto, unfolding(crate::specs::Parts::edge_at))]
 pub fn edge_at(pent_edges: &[u32], k: usize, i: usize) -> u32
     requires { (length pent_edges.now % 10 ≡ 0) × (k < length pent_edges.now) × (i < 3) }
     ensures { result ≡ edge_at pent_edges.now k i }

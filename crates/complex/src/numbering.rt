@@ -38,7 +38,7 @@ impl Face {
         }
     }
 
-    // The faces of a pentachoron, in the order of the Rust's loops, and then zeros.
+    // The faces of a pentachoron, in the order of the Rust's loops, and then zeros: fixed memory for every kind.
     #[tactic(auto, unfolding(lists::specs::Rows::rows, lists::specs::Lists::combos))]
     fn rows(self, a: u32, b: u32, c: u32, d: u32, e: u32) -> [u32; 30]
         ensures faces { rows (width_of self) (count_of self) result ≡ faces_of self (a ∷ b ∷ c ∷ d ∷ e ∷ []) }
@@ -110,7 +110,7 @@ pub fn number_faces(
     n
 }
 
-// How many faces of each kind there are.
+// How many faces of each kind there are. No `Counts`, since the numbering knows of no vertex that is in no face.
 #[derive(Clone, Copy)]
 pub struct FaceCounts {
     pub edges: usize,
@@ -119,7 +119,8 @@ pub struct FaceCounts {
 }
 
 // The faces of all three kinds are numbered, each kind in its own list. `next` links the chains of the search; `pent_edges` and
-// `pent_tris` get the numbers of the edges and of the triangles as they are met.
+// `pent_tris` get the numbers of the edges and of the triangles as they are met. The lists are no `ListsMut`: the check reads no
+// field of a lent struct while another is lent.
 pub fn number_all(
     pents: &[u32],
     edges: &mut [u32],

@@ -9,7 +9,7 @@ use native.Mathlib.Numerals.{add-one}
 use native.Mathlib.Omega.{arith}
 use lib.Dec.{eqb}
 use lib.ListN.{length, get_or, take, drop, set, replicate, length-replicate, length-append, length-set, length-map, take-append-drop, get_or-append}
-use lib.Seq.{append_snoc, drop-cons, take-suc, take_all, get_or-set_same, get_or-set_other, get_or_at, drop-drop, take_at, drop_at, length-take-le, set_split}
+use lib.Seq.{append_snoc, drop-cons, take-suc, get_or-set_same, get_or-set_other, get_or_at, drop-drop, take_at, drop_at, length-take-le, set_split}
 use Rattle.lists.specs.Keys.{eqs, find, meet, firsts, Distinct}
 use Rattle.lists.specs.Rows.{flat, rows, over}
 use Rattle.lists.specs.Chains.{mix, hash, chain_at, Indexed, Ready, Met}
@@ -27,13 +27,14 @@ hash-below s = go s 0 (omega arith)
     go [] h l = l
     go (v ∷ s) h l = go s (mix h v) (omega arith)
 
+-- a row's chain has its head
+pub head-fits : {ks : List (List ℕ)} {h x : List ℕ} (s : List ℕ) (chain : ℕ) → Indexed ks h x → chain ≡ hash s → chain < length h
+head-fits s chain ix e = omega (arith, e, ix.chains, hash-below s)
+
 -- one number more
 pub hash-snoc : (s : List ℕ) (i : ℕ) → i < length s → mix (hash (take i s)) (get_or s i 0) ≡ hash (take (i + 1) s)
 unfolding hash
 hash-snoc s i h = sym (ap (foldl mix 0) (ap (λ (k : ℕ). take k s) (add-one i) ∙ take-suc s i 0 h) ∙ foldl-append mix 0 (take i s) (get_or s i 0 ∷ []))
-
-pub hash-take : (s : List ℕ) (i : ℕ) → length s ≤ i → hash (take i s) ≡ hash s
-hash-take s i h = ap hash (take_all i s h)
 
 -- ---- a row compared
 
@@ -202,6 +203,10 @@ module _ (ks : List (List ℕ)) (h x s : List ℕ) (n : ℕ) (ix : Indexed ks h 
       }
 
 -- ---- a row that is met
+
+-- a row's number is at most how many rows there are
+pub number-le : (w : ℕ) (e : List ℕ) (n : ℕ) (s : List ℕ) → find s (rows w n e) ≤ n
+number-le w e n s = omega (arith, find-le s (rows w n e), length-rows w n e)
 
 module _ (w : ℕ) (e h x u : List ℕ) (n at k : ℕ) (s : List ℕ) (ix : Indexed (rows w n e) h x) (place : at < length u) (is : k ≡ find s (rows w n e)) where
   many : length (rows w n e) ≡ n

@@ -1,9 +1,7 @@
 -- Rows found by search and numbered by first meeting: each row that was met has one number, and keeps it. Assumes nothing.
 use mathlib.Core.Path.{◌≡◌, refl, sym, ap, ◌∙◌}
 use mathlib.Core.Logic.{◌⊎◌, inl, inr, ⊎_elim}
-use mathlib.Core.Bool.{Bool, true, false, cond, ◌&&◌}
-use lib.Dec.{eqb}
-use Rattle.std.specs.Cmp.Lexicographic.{pointwise}
+use mathlib.Core.Bool.{Bool, true, false, cond}
 use mathlib.Core.List.Memᴰ
 use mathlib.Core.List.{List, [], ◌∷◌, ◌++◌, map, foldl, Memᴰ, append_assoc, append-nil}
 use Prim.Native.Nat.{ℕ, zero, suc, ◌+◌, ◌≤◌, ◌<◌, suc-le-suc}
@@ -25,14 +23,6 @@ eqs-says [] [] = pass refl
 eqs-says [] (y ∷ ys) = fail (λ e. let z : ◌≡◌ {A = ℕ} 0 1 = cc in omega arith)
 eqs-says (x ∷ xs) [] = fail (λ e. let z : ◌≡◌ {A = ℕ} 0 1 = cc in omega arith)
 eqs-says (x ∷ xs) (y ∷ ys) = and-says (λ p q. cc) (λ e. cc) (λ e. cc) (eqb-says x y) (eqs-says xs ys)
-
--- the library's equality of slices of numbers
-pub eqs-pointwise : (x y : List ℕ) → pointwise eqb x y ≡ eqs x y
-unfolding eqs
-eqs-pointwise [] [] = refl
-eqs-pointwise [] (y ∷ ys) = refl
-eqs-pointwise (x ∷ xs) [] = refl
-eqs-pointwise (x ∷ xs) (y ∷ ys) = ap (λ (b : Bool). eqb x y && b) (eqs-pointwise xs ys)
 
 -- a row at the front of a list begins it
 pub eqs-begins : (new xs : List ℕ) → eqs new (take (length new) xs) ≡ begins new xs

@@ -1,4 +1,5 @@
 // Rows met in a list as it is: the same search by chains, but nothing is stored in the list.
+// The list, `head` and `next` stay parameters of their own: each is lent by itself, in fixed memory of a caller or of C.
 ghost use Rattle.std.specs.Prelude.{[], ◌∷◌, ◌*◌, ◌≤◌, length};
 ghost use Rattle.lists.specs.Rows.{rows};
 ghost use Rattle.lists.specs.Chains.{Comparable, Compared};
@@ -54,6 +55,7 @@ pub fn match_rows(
     ensures { Compared w list.now head.new next.new numbers.old numbers.new n most at (rows w count given.now) result }
 {
     let mut m = n;
+    // No `chunks_exact`: w may be 0.
     for q in 0..count {
         let from = w * q;
         m = match_row(

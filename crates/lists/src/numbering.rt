@@ -1,4 +1,5 @@
 // Rows of one width in a flat list. Each row is in the chain that its hash names, and a chain is walked from its last row.
+// The list, `head` and `next` stay parameters of their own: each is lent by itself, in fixed memory of a caller or of C.
 ghost use Rattle.std.specs.Prelude.{◌≡◌, [], ◌∷◌, ◌++◌, ◌+◌, ◌*◌, ◌≤◌, ◌<◌, length, slice_index, slice_set, take, drop};
 ghost use Rattle.lists.specs.Keys.{eqs, find};
 ghost use Rattle.lists.specs.Rows.{rows};
@@ -20,7 +21,13 @@ pub fn same_row(list: &[u32], at: usize, row: &[u32]) -> bool
     requires { at + length row.now ≤ length list.now }
     ensures { result ≡ eqs row.now (take (length row.now) (drop at list.now)) }
 {
-    row == &list[at..at + row.len()]
+    // A slice's `==` is a call of the library's search for each row, which takes the builder a seventh longer.
+    for (i, v) in row.iter().enumerate() {
+        if *v != list[at + i] {
+            return false;
+        }
+    }
+    true
 }
 
 // The number of `row`, which is in this chain, among the first n rows of its width; n where it is not there.
@@ -36,6 +43,7 @@ pub fn find_row(
     ensures { result ≡ find row.now (rows (length row.now) n list.now) }
 {
     let w = row.len();
+    // A walk by links and no count: `head` and `next` have 1 + a row, and 0 where a chain ends.
     let mut cur = head[chain] as usize;
     while 0 < cur {
         let k = cur - 1;
@@ -106,6 +114,7 @@ pub fn meet_rows(
     ensures { Met w list.old list.new head.new next.new numbers.old numbers.new n at (rows w count given.now) result }
 {
     let mut m = n;
+    // No `chunks_exact`: w may be 0.
     for q in 0..count {
         let from = w * q;
         m = meet_row(list, head, next, m, &given[from..from + w], numbers, at + q);

@@ -1,32 +1,29 @@
 -- `comparison::all_rise` meets its contract. Assumes nothing.
-use Prim.Native.Nat.{◌-◌, ◌/◌}
-use mathlib.Core.Path.{◌≡◌, refl, sym, ◌∙◌}
-use native.Mathlib.Nat.{sub-zero}
+use mathlib.Core.Path.{refl, sym, ap, ◌∙◌}
 use native.Mathlib.Omega.{arith}
-use lib.ListN.{length}
+use Rattle.complex.proofs.Fives.{fives_cons, fives_nil}
 use Rattle.comparison.specs.CheckParts.{all_rise}
-use Rattle.lists.specs.Rows.{rows}
-use Rattle.comparison.proofs.Rises.{rise-turn}
 use Rattle.comparison.proofs.all_rise.Goals as goal
 
-pub loop-k-init : goal.loop-k-init
-loop-k-init c = (omega arith, rw (sub-zero (length c.args.pents.now / 5)) refl)
+pub returns-then-not-vertices_rise : goal.returns-then-not-vertices_rise
+unfolding all_rise
+returns-then-not-vertices_rise c =
+    let i = c.loop-pent.invariant in
+    let s = c.in-Some.ensures.steps in
+    sym (i.left ∙ ap (all_rise c.args.n) (fives_cons _ _ _ s.1.0 (s.1.1 ∙ i.fives)) ∙ rw (sym c.vertices_rise.ensures ∙ c.if-not-vertices_rise.true) refl)
 
-pub rises_at-requires : goal.rises_at-requires
-rises_at-requires c = omega arith
-
-pub returns-then-not-rises_at : goal.returns-then-not-rises_at
-returns-then-not-rises_at c = let a = c.args in
-    let l = c.loop-k in
-    sym (l.invariant.1 ∙ rise-turn a.n l.k (length a.pents.now / 5) a.pents.now (omega arith) ∙ rw (sym c.rises_at.ensures ∙ c.if-not-rises_at.true) refl)
-
-pub loop-k-preserved : goal.loop-k-preserved
-loop-k-preserved c = let a = c.args in
-    let l = c.loop-k in
-    (omega arith, l.invariant.1 ∙ rise-turn a.n l.k (length a.pents.now / 5) a.pents.now (omega arith) ∙ rw (sym c.rises_at.ensures ∙ c.if-not-rises_at.false) refl)
+pub loop-pent-preserved : goal.loop-pent-preserved
+unfolding all_rise
+loop-pent-preserved c =
+    let i = c.loop-pent.invariant in
+    let s = c.in-Some.ensures.steps in record {
+      fives = s.0 ∙ i.fives;
+      left = i.left ∙ ap (all_rise c.args.n) (fives_cons _ _ _ s.1.0 (s.1.1 ∙ i.fives)) ∙ rw (sym c.vertices_rise.ensures ∙ c.if-not-vertices_rise.false) refl;
+    }
 
 pub returns : goal.returns
-unfolding all_rise rows
-returns c = let l = c.loop-k in
-    let e : length c.args.pents.now / 5 - l.k ≡ 0 = omega arith in
-    sym (l.invariant.1 ∙ rw e refl)
+unfolding all_rise
+returns c =
+    let i = c.loop-pent.invariant in
+    let s = c.in-None.ensures.steps in
+    sym (i.left ∙ ap (all_rise c.args.n) (fives_nil _ (omega (arith, s.1.0, i.fives))))

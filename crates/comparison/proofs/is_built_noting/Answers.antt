@@ -2,76 +2,52 @@
 use mathlib.Core.Bool.{true, false}
 use mathlib.Core.Path.{◌≡◌, refl, sym, ◌∙◌}
 use native.Mathlib.Omega.{arith}
-use Rattle.complex.specs.Builder.{lists}
-use Rattle.complex.specs.Lent.{pents_of}
+use Rattle.complex.specs.Lent.{lists_of}
 use Rattle.comparison.specs.CheckParts.{has_pents, has_all_faces}
-use Rattle.comparison.proofs.BuiltComplex.{given-long, given-rows}
 use Rattle.comparison.proofs.Comparisons.{pents_pass, faced, built-parts}
 use Rattle.lists.proofs.Tests.{not-both}
 use Rattle.comparison.proofs.is_built_noting.Goals as goal
-
-pub returns-then-not-has_pents : goal.returns-then-not-has_pents
-returns-then-not-has_pents c = let a = c.args in
-    let l = lists a.complex.now.pents.now a.complex.now.edges.now a.complex.now.triangles.now a.complex.now.tets.now a.complex.now.tri_to_pents.items.now a.complex.now.tri_to_pents.starts.now a.complex.now.edge_to_tris.items.now a.complex.now.edge_to_tris.starts.now a.complex.now.edge_to_pents.items.now a.complex.now.edge_to_pents.starts.now in
-    record {
-      value = sym (built-parts a.complex.now.counts l ∙ rw (sym c.has_pents.ensures ∙ c.if-not-has_pents.true) refl);
-      noting = record { edges = λ t. absurd (not-both t refl); triangles = λ t. absurd (not-both t refl); edges_kept = refl; triangles_kept = refl };
-    }
-
-pub overflow_mul-len : goal.overflow_mul-len
-overflow_mul-len c = let a = c.args in
-    let l = lists a.complex.now.pents.now a.complex.now.edges.now a.complex.now.triangles.now a.complex.now.tets.now a.complex.now.tri_to_pents.items.now a.complex.now.tri_to_pents.starts.now a.complex.now.edge_to_tris.items.now a.complex.now.edge_to_tris.starts.now a.complex.now.edge_to_pents.items.now a.complex.now.edge_to_pents.starts.now in
-    let h : has_pents a.complex.now.counts a.complex.now.pents.now ≡ true = sym c.has_pents.ensures ∙ c.if-not-has_pents.false in
-    let v = pents_pass a.complex.now.counts l h in
-    omega (arith, v.2)
-
-pub slice_bounds-has_all_faces-end : goal.slice_bounds-has_all_faces-end
-slice_bounds-has_all_faces-end c = let a = c.args in
-    let l = lists a.complex.now.pents.now a.complex.now.edges.now a.complex.now.triangles.now a.complex.now.tets.now a.complex.now.tri_to_pents.items.now a.complex.now.tri_to_pents.starts.now a.complex.now.edge_to_tris.items.now a.complex.now.edge_to_tris.starts.now a.complex.now.edge_to_pents.items.now a.complex.now.edge_to_pents.starts.now in
-    let h : has_pents a.complex.now.counts a.complex.now.pents.now ≡ true = sym c.has_pents.ensures ∙ c.if-not-has_pents.false in
-    let v = pents_pass a.complex.now.counts l h in
-    sym (given-long a.complex.now.counts l v.3)
+use Rattle.comparison.proofs.is_built_noting.Goals.{then-has_pents, else-has_pents}
 
 pub has_all_faces-requires : goal.has_all_faces-requires
-has_all_faces-requires c = let a = c.args in
-    let l = lists a.complex.now.pents.now a.complex.now.edges.now a.complex.now.triangles.now a.complex.now.tets.now a.complex.now.tri_to_pents.items.now a.complex.now.tri_to_pents.starts.now a.complex.now.edge_to_tris.items.now a.complex.now.edge_to_tris.starts.now a.complex.now.edge_to_pents.items.now a.complex.now.edge_to_pents.starts.now in
-    let h : has_pents a.complex.now.counts a.complex.now.pents.now ≡ true = sym c.has_pents.ensures ∙ c.if-not-has_pents.false in
-    let v = pents_pass a.complex.now.counts l h in
-    let n = given-long a.complex.now.counts l v.3 in
-    record { whole = omega arith; few = omega (arith, v.2); edges_room = omega (arith, v.2, c.requires.0); tris_room = omega (arith, v.2, c.requires.1) }
-
-pub returns-then-not-has_all_faces : goal.returns-then-not-has_all_faces
-returns-then-not-has_all_faces c = let a = c.args in
-    let l = lists a.complex.now.pents.now a.complex.now.edges.now a.complex.now.triangles.now a.complex.now.tets.now a.complex.now.tri_to_pents.items.now a.complex.now.tri_to_pents.starts.now a.complex.now.edge_to_tris.items.now a.complex.now.edge_to_tris.starts.now a.complex.now.edge_to_pents.items.now a.complex.now.edge_to_pents.starts.now in
-    let h : has_pents a.complex.now.counts a.complex.now.pents.now ≡ true = sym c.has_pents.ensures ∙ c.if-not-has_pents.false in
-    let v = pents_pass a.complex.now.counts l h in
-    let rows = given-rows a.complex.now.counts l v.3 in
-    let g : has_all_faces a.complex.now.counts (pents_of a.complex.now) a.complex.now.edges.now a.complex.now.triangles.now a.complex.now.tets.now ≡ false = rw rows at (sym c.has_all_faces.ensures.value ∙ c.if-not-has_all_faces.true) in
-    let n = rw rows at c.has_all_faces.ensures.noting in
-    record {
-      value = sym (built-parts a.complex.now.counts l ∙ rw (h, g) refl);
-      noting = record { edges = λ t. absurd (not-both t refl); triangles = λ t. absurd (not-both t refl); edges_kept = n.edges_kept; triangles_kept = n.triangles_kept };
+has_all_faces-requires c =
+    let x = c.args.complex.now in
+    let v = pents_pass x.counts (lists_of x) (sym c.has_pents.ensures ∙ c.if-has_pents.true) in record {
+      long = v.3;
+      scratch = record { whole = omega arith; few = omega (arith, v.2); edges_room = omega (arith, v.2, c.requires.0); tris_room = omega (arith, v.2, c.requires.1) };
     }
 
 pub has_adjacency-requires : goal.has_adjacency-requires
-has_adjacency-requires c = let a = c.args in
-    let l = lists a.complex.now.pents.now a.complex.now.edges.now a.complex.now.triangles.now a.complex.now.tets.now a.complex.now.tri_to_pents.items.now a.complex.now.tri_to_pents.starts.now a.complex.now.edge_to_tris.items.now a.complex.now.edge_to_tris.starts.now a.complex.now.edge_to_pents.items.now a.complex.now.edge_to_pents.starts.now in
-    let h : has_pents a.complex.now.counts a.complex.now.pents.now ≡ true = sym c.has_pents.ensures ∙ c.if-not-has_pents.false in
-    let v = pents_pass a.complex.now.counts l h in
-    let rows = given-rows a.complex.now.counts l v.3 in
-    let g : has_all_faces a.complex.now.counts (pents_of a.complex.now) a.complex.now.edges.now a.complex.now.triangles.now a.complex.now.tets.now ≡ true = rw rows at (sym c.has_all_faces.ensures.value ∙ c.if-not-has_all_faces.false) in
-    faced a.complex.now.counts l h g
+has_adjacency-requires c =
+    let x = c.args.complex.now in
+    let yes = c.if-has_all_faces.true in
+    elim c.if-has_pents.branch [
+      | then-has_pents w ↦ faced x.counts (lists_of x) (sym c.has_pents.ensures ∙ w.if-has_pents.true) (sym w.has_all_faces.ensures.value ∙ sym w.value-is ∙ yes)
+      | else-has_pents w ↦ absurd (not-both (sym w.value-is ∙ yes) w.if-has_pents.false)
+    ]
 
-pub returns : goal.returns
-returns c = let a = c.args in
-    let l = lists a.complex.now.pents.now a.complex.now.edges.now a.complex.now.triangles.now a.complex.now.tets.now a.complex.now.tri_to_pents.items.now a.complex.now.tri_to_pents.starts.now a.complex.now.edge_to_tris.items.now a.complex.now.edge_to_tris.starts.now a.complex.now.edge_to_pents.items.now a.complex.now.edge_to_pents.starts.now in
-    let h : has_pents a.complex.now.counts a.complex.now.pents.now ≡ true = sym c.has_pents.ensures ∙ c.if-not-has_pents.false in
-    let v = pents_pass a.complex.now.counts l h in
-    let rows = given-rows a.complex.now.counts l v.3 in
-    let g : has_all_faces a.complex.now.counts (pents_of a.complex.now) a.complex.now.edges.now a.complex.now.triangles.now a.complex.now.tets.now ≡ true = rw rows at (sym c.has_all_faces.ensures.value ∙ c.if-not-has_all_faces.false) in
-    let n = rw rows at c.has_all_faces.ensures.noting in
-    let yes = c.if-not-has_all_faces.false in
-    record {
-      value = c.has_adjacency.ensures ∙ sym (built-parts a.complex.now.counts l ∙ rw (h, g) refl);
-      noting = record { edges = λ t. n.edges yes; triangles = λ t. n.triangles yes; edges_kept = n.edges_kept; triangles_kept = n.triangles_kept };
-    }
+pub returns-then-has_all_faces-clause-value : goal.returns-then-has_all_faces-clause-value
+returns-then-has_all_faces-clause-value c =
+    let x = c.args.complex.now in
+    let yes = c.if-has_all_faces.true in
+    elim c.if-has_pents.branch [
+      | then-has_pents w ↦
+          let h : has_pents x.counts (lists_of x) ≡ true = sym c.has_pents.ensures ∙ w.if-has_pents.true in
+          let g : has_all_faces x.counts (lists_of x) ≡ true = sym w.has_all_faces.ensures.value ∙ sym w.value-is ∙ yes in
+          c.has_adjacency.ensures ∙ sym (built-parts x.counts (lists_of x) ∙ rw (h, g) refl)
+      | else-has_pents w ↦ absurd (not-both (sym w.value-is ∙ yes) w.if-has_pents.false)
+    ]
+
+pub returns-else-has_all_faces-clause-value : goal.returns-else-has_all_faces-clause-value
+returns-else-has_all_faces-clause-value c =
+    let x = c.args.complex.now in
+    let off = c.if-has_all_faces.false in
+    elim c.if-has_pents.branch [
+      | then-has_pents w ↦
+          let h : has_pents x.counts (lists_of x) ≡ true = sym c.has_pents.ensures ∙ w.if-has_pents.true in
+          let g : has_all_faces x.counts (lists_of x) ≡ false = sym w.has_all_faces.ensures.value ∙ sym w.value-is ∙ off in
+          off ∙ sym (built-parts x.counts (lists_of x) ∙ rw (h, g) refl)
+      | else-has_pents w ↦
+          let h : has_pents x.counts (lists_of x) ≡ false = sym c.has_pents.ensures ∙ w.if-has_pents.false in
+          off ∙ sym (built-parts x.counts (lists_of x) ∙ rw h refl)
+    ]

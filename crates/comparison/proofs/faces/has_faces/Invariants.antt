@@ -1,6 +1,5 @@
--- `comparison::faces::has_faces` meets its contract. Assumes nothing.
-use Prim.Native.Nat.{◌*◌, ◌-◌, ◌/◌, ◌≤◌}
-use mathlib.Core.Path.{◌≡◌}
+-- `comparison::faces::has_faces` meets its contract. The loop's invariant: the faces of the first k pentachorons are met. Assumes nothing.
+use Prim.Native.Nat.{◌*◌, ◌/◌, ◌≤◌}
 use lib.ListN.{length}
 use Rattle.complex.specs.Complex.{width_of, count_of, met_faces}
 use Rattle.lists.specs.Chains.{Met, Comparable}
@@ -8,8 +7,8 @@ use Rattle.lists.specs.Rows.{rows}
 use Rattle.comparison.proofs.faces.has_faces.Given as goal
 
 abbrev pub invariant-loop-k : goal.invariant-loop-k
-invariant-loop-k l = (l.k ≤ length l.pents / 5) × (length l.next ≡ length l.initial.next) × (length l.numbers ≡ length l.initial.numbers) × (l.n ≤ l.n_faces)
-    × Comparable (width_of l.face) l.list l.initial.head l.initial.next l.initial.numbers 0 l.n_faces 0 (count_of l.face * (length l.pents / 5)) × Met (width_of l.face) l.list l.list l.head l.next l.initial.numbers l.numbers 0 0 (met_faces l.face (rows 5 l.k l.pents)) l.n
-
-abbrev pub decreases-loop-k : goal.decreases-loop-k
-decreases-loop-k l = length l.pents / 5 - l.k
+invariant-loop-k l = record {
+  few : l.n ≤ l.n_faces;
+  comparable : Comparable (width_of l.face) l.list l.initial.head l.initial.next l.initial.numbers 0 l.n_faces 0 (count_of l.face * (length l.pents / 5));
+  met : Met (width_of l.face) l.list l.list l.head l.next l.initial.numbers l.numbers 0 0 (met_faces l.face (rows 5 l.k l.pents)) l.n;
+}

@@ -2,72 +2,41 @@
 use mathlib.Core.Path.{refl, sym, ◌∙◌}
 use native.Mathlib.Omega.{arith}
 use lib.ListN.{get_or, drop_of_length-le}
-use borrow.Author.Tests.{lt-leb, le-leb, le-ltb}
-use Rattle.lists.specs.Rows.{rows}
-use Rattle.lists.proofs.Rows.{length-rows, row_below}
+use borrow.Author.Tests.{lt-leb, le-leb, lt-ltb, le-ltb}
+use Rattle.lists.proofs.Rows.{length-rows}
 use Rattle.comparison.specs.CheckParts.{lying}
-use Rattle.comparison.proofs.Holdings.{lying-turn, lying-row}
+use Rattle.comparison.specs.Parts.{rows_of}
+use Rattle.comparison.proofs.Holdings.{lying-turn}
 use Rattle.comparison.proofs.holding.items_lie.Goals as goal
-
-pub overflow_cast-item : goal.overflow_cast-item
-overflow_cast-item c = omega (arith, c.type_inv.items c.loop-i.i)
+use Rattle.comparison.proofs.holding.items_lie.Goals.{then-item-low-via-then-item-low, then-item-low-via-else-item-low+then-rows-item, then-item-low-via-else-item-low+else-rows-item+then-not-lies_in}
 
 pub returns-then-item-low : goal.returns-then-item-low
 returns-then-item-low c =
     let a = c.args in
-    let l = c.loop-i in
-    let turn = lying-turn (rows a.shape.width a.shape.count a.list.now) a.key.now l.low a.items.now l.i (omega arith) in
-    sym (l.invariant.1 ∙ turn ∙ rw (lt-leb l.low (get_or a.items.now l.i 0) (omega arith)) refl)
+    let r = a.rows.now in
+    let l = c.loop-item in
+    let i = get_or a.items.now l.item-index 0 in
+    let turn = lying-turn (rows_of r) a.key.now l.low a.items.now l.item-index (omega arith) in
+    let many = length-rows r.width r.count r.list.now in
+    elim c.then-item-low.branch [
+      | then-item-low-via-then-item-low w ↦ sym (l.invariant ∙ turn ∙ rw (lt-leb l.low i w.if-item-low.true) refl)
+      | then-item-low-via-else-item-low+then-rows-item w ↦ sym (l.invariant ∙ turn ∙ rw (le-leb l.low i w.if-item-low.false, many, le-ltb i r.count w.if-rows-item.true) refl)
+      | then-item-low-via-else-item-low+else-rows-item+then-not-lies_in w ↦
+          sym (l.invariant ∙ turn ∙ rw (le-leb l.low i w.if-item-low.false, many, lt-ltb i r.count w.if-rows-item.false, ← w.row.ensures, sym w.lies_in.ensures ∙ w.if-not-lies_in.true) refl)
+    ]
 
-pub returns-then-count-item : goal.returns-then-count-item
-returns-then-count-item c =
+pub loop-item-preserved : goal.loop-item-preserved
+loop-item-preserved c =
     let a = c.args in
-    let l = c.loop-i in
-    let i = get_or a.items.now l.i 0 in
-    let turn = lying-turn (rows a.shape.width a.shape.count a.list.now) a.key.now l.low a.items.now l.i (omega arith) in
-    sym (l.invariant.1 ∙ turn ∙ rw (le-leb l.low i (omega arith), length-rows a.shape.width a.shape.count a.list.now, le-ltb i a.shape.count (omega arith)) refl)
-
-pub overflow_mul-from : goal.overflow_mul-from
-overflow_mul-from c =
-    let a = c.args in
-    omega (arith, row_below a.shape.width (get_or a.items.now c.loop-i.i 0) a.shape.count (omega arith))
-
-pub overflow_add-to : goal.overflow_add-to
-overflow_add-to c =
-    let a = c.args in
-    omega (arith, row_below a.shape.width (get_or a.items.now c.loop-i.i 0) a.shape.count (omega arith))
-
-pub offset_bounds-list-from : goal.offset_bounds-list-from
-offset_bounds-list-from c =
-    let a = c.args in
-    omega (arith, row_below a.shape.width (get_or a.items.now c.loop-i.i 0) a.shape.count (omega arith))
-
-pub slice_bounds-lies_in-end : goal.slice_bounds-lies_in-end
-slice_bounds-lies_in-end c =
-    let a = c.args in
-    omega (arith, row_below a.shape.width (get_or a.items.now c.loop-i.i 0) a.shape.count (omega arith))
-
-pub returns-then-not-lies_in : goal.returns-then-not-lies_in
-returns-then-not-lies_in c =
-    let a = c.args in
-    let l = c.loop-i in
-    let f = c.lies_in in
-    let turn = lying-row a.shape.width a.shape.count a.list.now a.key.now l.low a.items.now l.i (omega arith) (omega arith) (omega arith) in
-    sym (l.invariant.1 ∙ turn ∙ rw (sym f.ensures ∙ c.if-not-lies_in.true) refl)
-
-pub overflow_add-low : goal.overflow_add-low
-overflow_add-low c = omega (arith, c.type_inv.items c.loop-i.i)
-
-pub loop-i-preserved : goal.loop-i-preserved
-loop-i-preserved c =
-    let a = c.args in
-    let l = c.loop-i in
-    let f = c.lies_in in
-    let turn = lying-row a.shape.width a.shape.count a.list.now a.key.now l.low a.items.now l.i (omega arith) (omega arith) (omega arith) in
-    (omega arith, l.invariant.1 ∙ turn ∙ rw (sym f.ensures ∙ c.if-not-lies_in.false) refl)
+    let r = a.rows.now in
+    let l = c.loop-item in
+    let i = get_or a.items.now l.item-index 0 in
+    let turn = lying-turn (rows_of r) a.key.now l.low a.items.now l.item-index (omega arith) in
+    let many = length-rows r.width r.count r.list.now in
+    l.invariant ∙ turn ∙ rw (le-leb l.low i c.if-item-low.false, many, lt-ltb i r.count c.if-rows-item.false, ← c.row.ensures, sym c.lies_in.ensures ∙ c.if-not-lies_in.false) refl
 
 pub returns : goal.returns
 unfolding lying
 returns c =
-    let l = c.loop-i in
-    sym (l.invariant.1 ∙ rw (drop_of_length-le c.args.items.now {i = l.i} (omega arith)) refl)
+    let l = c.loop-item in
+    sym (l.invariant ∙ rw (drop_of_length-le c.args.items.now {i = l.item-index} (omega arith)) refl)

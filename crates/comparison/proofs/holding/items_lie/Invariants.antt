@@ -1,13 +1,9 @@
--- `comparison::holding::items_lie` meets its contract. Assumes nothing.
-use Prim.Native.Nat.{◌-◌, ◌≤◌}
+-- `comparison::holding::items_lie` meets its contract. The loop's invariant: the items so far are such numbers. Assumes nothing.
 use mathlib.Core.Path.{◌≡◌}
-use lib.ListN.{length, drop}
-use Rattle.lists.specs.Rows.{rows}
+use lib.ListN.{drop}
 use Rattle.comparison.specs.CheckParts.{lying}
+use Rattle.comparison.specs.Parts.{rows_of}
 use Rattle.comparison.proofs.holding.items_lie.Given as goal
 
-abbrev pub invariant-loop-i : goal.invariant-loop-i
-invariant-loop-i l = (l.i ≤ length l.items) × (lying (rows l.width l.count l.list) l.key 0 l.items ≡ lying (rows l.width l.count l.list) l.key l.low (drop l.i l.items))
-
-abbrev pub decreases-loop-i : goal.decreases-loop-i
-decreases-loop-i l = length l.items - l.i
+abbrev pub invariant-loop-item : goal.invariant-loop-item
+invariant-loop-item l = lying (rows_of l.rows) l.key 0 l.items ≡ lying (rows_of l.rows) l.key l.low (drop l.item-index l.items)

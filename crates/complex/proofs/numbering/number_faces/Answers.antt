@@ -19,12 +19,6 @@ loop-k-init c =
     let ready = ready-none f (length a.pents.now / 5) (length a.pents.now) a.list.now _ a.next.now a.numbers.now 32768 refl refl c.requires in
     record { ready = ready; met = met-none (width_of f) a.list.now _ a.next.now a.numbers.now 0 0 ready.indexed }
 
-pub overflow_mul-count : goal.overflow_mul-count
-overflow_mul-count c =
-    let f = c.args.face in
-    let below = face-below f c.loop-k.k (length c.args.pents.now / 5) (omega arith) in
-    rw c.count-count.ensures (omega (arith, c.requires.searched.links))
-
 pub meet_rows-n-requires : goal.meet_rows-n-requires
 meet_rows-n-requires c =
     let a = c.args in

@@ -1,21 +1,17 @@
 -- `lists::matching::match_row` meets its contract. Assumes nothing.
-use Prim.Native.Nat.{◌*◌, ◌≤◌}
 use mathlib.Core.Path.{◌≡◌, refl, sym, ◌∙◌}
 use native.Mathlib.Omega.{arith}
 use lib.ListN.{length}
 use Rattle.lists.specs.Chains.{hash}
-use Rattle.lists.specs.Rows.{rows}
-use Rattle.lists.proofs.Chains.{hash-below}
-use Rattle.lists.proofs.Keys.{find-le}
-use Rattle.lists.proofs.Matches.{next-room, compared-old, compared-full, compared-other, compared-new}
-use Rattle.lists.proofs.Rows.{length-rows}
+use Rattle.lists.proofs.Chains.{head-fits, number-le}
+use Rattle.lists.proofs.Matches.{compared-old, compared-full, compared-other, compared-new}
 use Rattle.lists.proofs.matching.match_row.Goals as goal
 
 pub overflow_cast-numbers : goal.overflow_cast-numbers
 overflow_cast-numbers c =
     let a = c.args in
     let p = c.requires in
-    omega (arith, c.find_row-k.ensures, find-le a.row.now (rows (length a.row.now) a.n a.list.now), length-rows (length a.row.now) a.n a.list.now, p.known, p.few)
+    omega (arith, c.find_row-k.ensures, number-le (length a.row.now) a.list.now a.n a.row.now, p.known, p.few)
 
 pub returns-then-k-n : goal.returns-then-k-n
 returns-then-k-n c =
@@ -35,8 +31,7 @@ returns-then-not-same_row c =
 pub link_row-requires : goal.link_row-requires
 link_row-requires c =
     let p = c.requires in
-    let chain : c.chain_of-chain.result ≡ hash c.args.row.now = c.chain_of-chain.ensures in
-    (omega (arith, p.indexed.chains, hash-below c.args.row.now), omega (arith, p.links, p.known), omega (arith, p.few, p.known))
+    (head-fits c.args.row.now c.chain_of-chain.result p.indexed c.chain_of-chain.ensures, omega (arith, p.links, p.known), omega (arith, p.few, p.known))
 
 pub returns : goal.returns
 returns c =

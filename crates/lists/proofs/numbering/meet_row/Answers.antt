@@ -6,17 +6,12 @@ use native.Mathlib.Numerals.{add-one}
 use native.Mathlib.Omega.{arith}
 use lib.ListN.{length}
 use Rattle.lists.specs.Chains.{hash}
-use Rattle.lists.specs.Rows.{rows}
-use Rattle.lists.proofs.Chains.{hash-below, met-old, met-new}
-use Rattle.lists.proofs.Keys.{find-le}
-use Rattle.lists.proofs.Rows.{length-rows}
+use Rattle.lists.proofs.Chains.{head-fits, number-le, met-old, met-new}
 use Rattle.lists.proofs.numbering.meet_row.Goals as goal
 
 pub overflow_cast-numbers : goal.overflow_cast-numbers
 overflow_cast-numbers c =
-    let a = c.args in
-    let f = c.find_row-k in
-    omega (arith, f.ensures, find-le a.row.now (rows (length a.row.now) a.n a.list.now), length-rows (length a.row.now) a.n a.list.now, c.requires.few)
+    let a = c.args in omega (arith, c.find_row-k.ensures, number-le (length a.row.now) a.list.now a.n a.row.now, c.requires.few)
 
 pub returns-then-k-n : goal.returns-then-k-n
 returns-then-k-n c =
@@ -27,8 +22,7 @@ returns-then-k-n c =
 pub link_row-requires : goal.link_row-requires
 link_row-requires c =
     let p = c.requires in
-    let chain : c.chain_of-chain.result ≡ hash c.args.row.now = c.chain_of-chain.ensures in
-    (omega (arith, p.indexed.chains, hash-below c.args.row.now), omega (arith, p.links), omega (arith, p.few))
+    (head-fits c.args.row.now c.chain_of-chain.result p.indexed c.chain_of-chain.ensures, omega (arith, p.links), omega (arith, p.few))
 
 pub returns : goal.returns
 returns c =

@@ -39,9 +39,3 @@ loop-q-preserved c =
     rw (add-one l.q, rows_snoc a.w l.q a.given.now)
     (met-trans a.w a.list.now l.list l.head l.next f.new.list f.new.head f.new.next a.numbers.now l.numbers f.new.numbers a.n l.m f.result a.at (a.at + l.q) (rows a.w l.q a.given.now) (take a.w (drop (a.w * l.q) a.given.now) ∷ [])
     l.invariant met (omega arith) (omega (arith, p.1.numbers)))
-
-pub returns : goal.returns
-returns c =
-    let l = c.loop-q in
-    let e : l.q ≡ c.args.count = omega arith in
-    rw e at l.invariant
