@@ -23,6 +23,7 @@ pub fn tri_sq_lengths(edges: TriangleEdges, sq_lengths: &[f64]) -> [f64; 3]
 }
 
 // The area of a triangle of three squared lengths: the root of the squared area, its sign cleared.
+#[tactic(auto, unfolding(crate::specs::Action::abs_area))]
 pub fn abs_area(s: [f64; 3]) -> f64
     ensures { result ≡ abs_area s }
 {

@@ -12,6 +12,7 @@ use incidence::TriangleEdges;
 use lorentzian::{triangle_area_sq_grad, triangle_area_sq_lorentzian};
 
 // The sign of a squared area, over twice the area.
+#[tactic(auto, unfolding(crate::specs::Action::factor_of))]
 pub fn factor_of(area_sq: f64, area: f64) -> f64
     ensures { result ≡ factor_of area_sq area }
 {

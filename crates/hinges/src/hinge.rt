@@ -36,6 +36,7 @@ pub fn kind_in(byte: u8) -> Option<HingeType>
 }
 
 // The kind of a hinge after one dihedral more: the first one decides.
+#[tactic(auto, unfolding(crate::specs::Hinges::first))]
 pub fn first(kind: Option<HingeType>, dihedral: Dihedral) -> Option<HingeType>
     ensures { result ≡ first kind dihedral }
 {
@@ -43,6 +44,7 @@ pub fn first(kind: Option<HingeType>, dihedral: Dihedral) -> Option<HingeType>
 }
 
 // The hinge of a first kind and a sum; Spacelike where there was no dihedral.
+#[tactic(auto, unfolding(crate::specs::Hinges::closed))]
 pub fn closed(kind: Option<HingeType>, sum: f64) -> Hinge
     ensures { result ≡ closed kind sum }
 {

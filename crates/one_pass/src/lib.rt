@@ -32,6 +32,7 @@ fn clear_kinds(n: usize, kinds: &mut [u8])
 // ---- the pass
 
 // One dihedral more at a triangle.
+#[tactic(auto, unfolding(crate::specs::Pass::byte_of_first, hinges::specs::Hinges::plus))]
 fn add_dihedral(tri: TriangleNumber, dihedral: Dihedral, sums: &mut [f64], kinds: &mut [u8])
     requires { (tri.0 < length sums.old) × (tri.0 < length kinds.old) }
     ensures { (sums.new ≡ set sums.old tri.0 (plus (get_or sums.old tri.0 nan) dihedral))
@@ -43,6 +44,7 @@ fn add_dihedral(tri: TriangleNumber, dihedral: Dihedral, sums: &mut [f64], kinds
 }
 
 // The ten dihedrals of a pentachoron, each at the triangle that its pair of vertices leaves.
+#[tactic(auto, unfolding(lists::specs::Lists::upto, lists::specs::Loops::scatter))]
 fn add_ten(tris: &[u32], dihedrals: [Dihedral; 10], sums: &mut [f64], kinds: &mut [u8])
     requires { (length tris.now ≡ 10) × Below tris.now (length sums.old) × Below tris.now (length kinds.old) }
     ensures { (sums.new ≡ scatter nan plus (ten_events tris.now dihedrals) sums.old)
@@ -54,6 +56,7 @@ fn add_ten(tris: &[u32], dihedrals: [Dihedral; 10], sums: &mut [f64], kinds: &mu
 }
 
 // The dihedrals of all pentachorons, in their order.
+#[tactic(auto, unfolding(lists::specs::Lists::gather, lists::specs::Loops::scatter))]
 fn add_all_dihedrals<'a>(
     complex: &Complex<'a>,
     incidence: &Incidence<'a>,
@@ -79,6 +82,7 @@ fn add_all_dihedrals<'a>(
 // ---- after the pass
 
 // The first n sums and first kinds become deficits and kinds.
+#[tactic(auto, unfolding(lists::specs::Lists::upto))]
 fn close_all(n: usize, sums: &mut [f64], kinds: &mut [u8])
     requires { (n ≤ length sums.old) × (n ≤ length kinds.old) }
     ensures { (sums.new ≡ map (λ t. (closed (kind_in (get_or kinds.old t 0)) (get_or sums.old t nan)).deficit) (upto n) ++ drop n sums.old)

@@ -3,21 +3,15 @@ use Rattle.std.proofs.Common.{get_or-take}
 use Prim.Native.Nat.{◌<◌}
 use mathlib.Core.Bool.{false}
 use mathlib.Core.List.{[], ◌∷◌}
-use mathlib.Core.Path.{◌≡◌, refl, sym, ap, ◌∙◌}
+use mathlib.Core.Path.{◌≡◌, sym, ap, ◌∙◌}
 use native.Mathlib.Omega.{arith}
 use lib.ListN.{length, length-append, get_or, take}
 use lib.Seq.{length-take-le}
-use Rattle.lists.specs.Lists.{keep, upto}
-use Rattle.lists.specs.Rows.{over}
 use Rattle.lists.proofs.Rows.{front-turn}
 use Rattle.marks.specs.Marks.{marked_below}
 use Rattle.marks.proofs.Marking.{marked-here, marked-past, marked-room}
 use Rattle.marks.proofs.list_marked.Goals.{then-mark, else-mark}
 use Rattle.marks.proofs.list_marked.Goals as goal
-
-pub loop-t-init : goal.loop-t-init
-unfolding marked_below upto keep
-loop-t-init c = (refl, refl)
 
 pub bounds-list-count : goal.bounds-list-count
 bounds-list-count c =
@@ -44,10 +38,3 @@ loop-t-preserved c =
           let past = marked-past M l.t (sym read ∙ w.if-mark.false) in
           (w.count-is ∙ l.invariant.0 ∙ ap length (sym past), rw (w.list-is, w.count-is, past) l.invariant.1)
     ]
-
-pub returns : goal.returns
-unfolding over
-returns c =
-    let l = c.loop-t in
-    let e : l.t ≡ c.args.n = omega (arith, length-take-le c.args.n c.args.marks.now c.requires.0) in
-    l.invariant.1 ∙ rw (l.invariant.0, e) refl

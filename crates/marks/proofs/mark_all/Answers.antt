@@ -1,14 +1,9 @@
 -- `marks::mark_all` meets its contract. Assumes nothing.
 use mathlib.Core.Bool.{true}
-use mathlib.Core.Path.{refl, sym, ap, ◌∙◌}
+use mathlib.Core.Path.{sym, ap, ◌∙◌}
 use lib.ListN.{get_or, set}
-use Rattle.marks.specs.Marks.{marked}
 use Rattle.marks.proofs.Marking.{marked_next}
 use Rattle.marks.proofs.mark_all.Goals as goal
-
-pub loop-number-init : goal.loop-number-init
-unfolding marked
-loop-number-init c = refl
 
 pub loop-number-preserved : goal.loop-number-preserved
 loop-number-preserved c =

@@ -1,16 +1,11 @@
 -- `marks::mark_met` meets its contract. Assumes nothing.
 use mathlib.Core.List.{[]}
-use mathlib.Core.Path.{refl, sym, ap, ◌∙◌}
+use mathlib.Core.Path.{sym, ap, ◌∙◌}
 use native.Mathlib.Omega.{arith}
 use lib.ListN.{length, get_or, take}
-use Rattle.lists.specs.Lists.{gather}
 use Rattle.marks.specs.Marks.{met, marked}
 use Rattle.marks.proofs.Marking.{marked_append, met_next, holding-below}
 use Rattle.marks.proofs.mark_met.Goals as goal
-
-pub loop-edge-init : goal.loop-edge-init
-unfolding marked met gather
-loop-edge-init c = λ rs edges ok. refl
 
 pub mark_all-requires : goal.mark_all-requires
 mark_all-requires c =

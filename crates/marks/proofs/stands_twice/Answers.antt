@@ -1,18 +1,13 @@
 -- `marks::stands_twice` meets its contract. Assumes nothing.
 use Prim.Native.Nat.{suc}
-use mathlib.Core.Bool.{Bool, false, true}
-use mathlib.Core.Path.{refl, sym, ap, ◌∙◌}
+use mathlib.Core.Bool.{true}
+use mathlib.Core.Path.{sym, ap, ◌∙◌}
 use native.Mathlib.Numerals.{add-one}
-use lib.ListN.{get_or, set, take, drop, length-set, length-replicate}
+use lib.ListN.{get_or, set, take, drop, length-set}
 use lib.Seq.{take-suc, split_at}
 use Rattle.complex.specs.Builder.{repeats}
-use Rattle.marks.specs.Marks.{marked}
 use Rattle.marks.proofs.Marking.{mark-found, mark-missing, marked_next, stands-again, stands-once}
 use Rattle.marks.proofs.stands_twice.Goals as goal
-
-pub loop-number-init : goal.loop-number-init
-unfolding marked repeats
-loop-number-init c = (length-replicate {A = Bool} 81920 false, refl, refl)
 
 pub returns-then-marks-number : goal.returns-then-marks-number
 returns-then-marks-number c =

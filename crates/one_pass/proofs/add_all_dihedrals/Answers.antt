@@ -1,7 +1,7 @@
 -- `one_pass::add_all_dihedrals` meets its contract. Assumes nothing.
 use Rattle.std.proofs.Common.{rules}
 use Prim.Native.Nat.{◌<◌}
-use mathlib.Core.Path.{◌≡◌, refl, ap, ◌∙◌}
+use mathlib.Core.Path.{◌≡◌, ap, ◌∙◌}
 use mathlib.Core.List.{[]}
 use native.Mathlib.Omega.{arith}
 use lib.ListN.{length, get_or}
@@ -18,10 +18,6 @@ use Rattle.one_pass.specs.Pass.{byte_of_first, ten_events}
 use Rattle.one_pass.proofs.PassSteps.{ten_events_lem, pass-turn}
 use Rattle.one_pass.proofs.add_all_dihedrals.Invariants.{before}
 use Rattle.one_pass.proofs.add_all_dihedrals.Goals as goal
-
-pub loop-p-init : goal.loop-p-init
-unfolding gather scatter
-loop-p-init c = (refl, refl)
 
 pub pent_sq_lengths-s-requires : goal.pent_sq_lengths-s-requires
 pent_sq_lengths-s-requires c = own-edges c.requires.0 c.loop-p.p c.loop-p-test.true c.pent_edge_indices-own.result.now c.pent_edge_indices-own.ensures

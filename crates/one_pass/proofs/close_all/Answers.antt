@@ -5,16 +5,11 @@ use native.Mathlib.Numerals.{add-one}
 use native.Mathlib.Omega.{arith}
 use lib.ListN.{get_or}
 use lib.Ieee.{nan}
-use Rattle.lists.specs.Lists.{upto}
 use Rattle.lists.proofs.Rows.{map-turn, read_next}
 use Rattle.lorentzian.specs.Dihedral.{kind_number}
 use Rattle.hinges.specs.declared.hinge.Hinge.{Hinge}
 use Rattle.one_pass.proofs.close_all.Invariants.{closed_at}
 use Rattle.one_pass.proofs.close_all.Goals as goal
-
-pub loop-k-init : goal.loop-k-init
-unfolding upto
-loop-k-init c = (refl, refl)
 
 pub loop-k-preserved : goal.loop-k-preserved
 loop-k-preserved c =
@@ -27,9 +22,3 @@ loop-k-preserved c =
       rw (h, add-one l.k) (map-turn (λ t. (f t).deficit) a.sums.now l.sums l.k (omega arith) l.auto.sums l.invariant.0),
       rw (c.number.ensures, h, add-one l.k) (map-turn (λ t. kind_number (f t).kind) a.kinds.now l.kinds l.k (omega arith) l.auto.kinds l.invariant.1),
     )
-
-pub returns : goal.returns
-returns c =
-    let l = c.loop-k in
-    let e : l.k ≡ c.args.n = omega arith in
-    (rw e at l.invariant.0, rw e at l.invariant.1)

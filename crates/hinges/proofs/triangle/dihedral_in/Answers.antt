@@ -9,16 +9,8 @@ use Rattle.hinges.proofs.PentachoronSteps.{pent-five, own-edges}
 use Rattle.hinges.proofs.TriangleSteps.{opposite-below}
 use Rattle.hinges.proofs.triangle.dihedral_in.Goals as goal
 
-pub pent_edge_indices-own-requires : goal.pent_edge_indices-own-requires
-pent_edge_indices-own-requires c = (c.requires.0.passable.edge_numbers, c.requires.1)
-
 pub pent_sq_lengths-s-requires : goal.pent_sq_lengths-s-requires
-pent_sq_lengths-s-requires c =
-    let a = c.args in
-    own-edges c.requires.0.passable a.pent.0 c.requires.1 c.pent_edge_indices-own.result.now c.pent_edge_indices-own.ensures
-
-pub opposite_local_indices-at-requires : goal.opposite_local_indices-at-requires
-opposite_local_indices-at-requires c = let r = c.requires in (r.0.simplices, r.0.passable.tri_numbers, r.1, r.2, r.3)
+pent_sq_lengths-s-requires c = own-edges c.requires.0.passable c.args.pent.0 c.requires.1 c.pent_edge_indices-own.result.now c.pent_edge_indices-own.ensures
 
 pub dihedral_at-requires-clause-in_range : goal.dihedral_at-requires-clause-in_range
 dihedral_at-requires-clause-in_range c =
