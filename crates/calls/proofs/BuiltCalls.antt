@@ -1,6 +1,8 @@
 -- What a call over a complex has where its checks let it pass, and what it answers where they don't. Assumes nothing.
 use Rattle.refusals.specs.Refusals.{Done, Outcome}
-use Rattle.std.specs.Prelude.{Err}
+use Rattle.std.specs.Prelude.{Err, Result}
+use Rattle.std.specs.Result.{IsErrAnd}
+use Rattle.std.proofs.lemmas.Result.{err_from_is_err_and}
 use Prim.Native.Nat.{ℕ, ◌*◌, ◌≤◌, ◌<◌}
 use mathlib.Core.Bool.{Bool, true, false, not, cond}
 use mathlib.Core.List.{List, map, Memᴰ}
@@ -24,15 +26,17 @@ use Rattle.complex.specs.declared.numbering.Face.TheVariants.{Edge, Triangle}
 use Rattle.complex.specs.Complex.{count_of, met_faces, faces, triangles, tri_to_pents}
 use Rattle.complex.specs.Builder.{Lists, too_large, repeats}
 use Rattle.complex.specs.Check.{pents_in, is_built}
+use Rattle.complex.specs.Lent.{lists_of}
 use Rattle.complex.proofs.Offences.{cond-done}
 use Rattle.complex.proofs.Meetings.{length-met}
 use Rattle.complex.proofs.Lying.{faces_has, edge-of-triangle}
 use Rattle.complex.proofs.Laws.{not-large}
 use Rattle.comparison.proofs.BuiltComplex.{IsBuilt, built-says, built-sorted, built-wide, built-edges, built-triangles, built-tri-to-pents, built_pent-edges, built_pent-tris, built-simplices, built-lie}
 use Rattle.hinges.specs.Hinges.{FaceLists, built_faces, faces_in, hinges, hinge_at}
-use Rattle.hinges.specs.Parts.{Measured}
+use Rattle.hinges.specs.Parts.{Measured, IsMeasured}
 use Rattle.hinges.proofs.OnePass.{built-one_pass}
-use Rattle.calls.specs.Calls.{BuiltWith, lengths_check_of, free_check_of, built_check_of, room_check_of, triangle_check_of}
+use Rattle.calls.specs.declared.built.BuiltComplex.{BuiltComplex}
+use Rattle.calls.specs.Calls.{BuiltWith, lengths_check_of, free_check_of, built_check_of, room_check_of, triangle_check_of, Filled}
 
 -- ---- a built complex
 
@@ -72,6 +76,13 @@ built-measured c l pe pt n w e =
       edges_found = λ r s m k. subst (λ (keys : List (List ℕ)). Memᴰ s keys) (sym (built-edges c l b)) (edge-of-triangle ps (built-sorted c l b) (subst (λ (ts : List (List ℕ)). Memᴰ r ts) (built-triangles c l b) m) k);
     }
 
+pub measured : (b : BuiltComplex) (n : ℕ) → n ≡ b.complex.counts.edges → IsMeasured b.complex b.incidence n
+measured b n e = built-measured b.complex.counts (lists_of b.complex) b.incidence.pent_edges.now b.incidence.pent_tris.now n b.built_with e
+
+-- no more edges than numbers for them
+pub few-edges : (b : BuiltComplex) → b.complex.counts.edges ≤ 81920
+few-edges b = most-edges b.complex.counts (lists_of b.complex) (said (built-says b.complex.counts (lists_of b.complex)) b.built_with.built)
+
 -- its rows are those of the builder's complex
 pub built-faces : (c : Counts) (l : Lists) → IsBuilt c l → faces_in c l.pents l.edges l.triangles ≡ built_faces (pents_in c l.pents)
 built-faces c l b = λ i. record { pents = pents_in c l.pents; edges = built-edges c l b i; triangles = built-triangles c l b i }
@@ -88,6 +99,10 @@ built-table c l ls h =
 -- an outcome is not both
 pub done-not-refused : {r : Refusal} → Done ≡ Err r → ⊥
 done-not-refused e = let z : ◌≡◌ {A = ℕ} 0 1 = cc in omega arith
+
+-- what a `?` returns where a check refuses
+pub returned : {T : Type 0} (r : Result T Refusal) (e : Refusal) → IsErrAnd r (λ y. y ≡ e) → r ≡ Err e
+returned r e h = let p = err_from_is_err_and r h in p.1 ∙ ap Err p.2
 
 -- a check that refuses does so whatever the checks after it say
 pub cond-refused : {r : Refusal} (b : Bool) (e : Refusal) (others : Outcome) → cond b (Err e) Done ≡ Err r → cond b (Err e) others ≡ Err r
@@ -171,3 +186,22 @@ not-built c l others e = rw e refl
 pub others-decide : (c : Counts) (l : Lists) (others : Outcome) → is_built c l ≡ true → built_check_of c l others ≡ others
 unfolding built_check_of
 others-decide c l others e = rw e refl
+
+pub built-refused : {r : Refusal} (c : Counts) (l : Lists) (others : Outcome) → built_check_of c l Done ≡ Err r → built_check_of c l others ≡ Err r
+unfolding built_check_of
+built-refused c l others h = cond-refused (not (is_built c l)) NotBuilt others h
+
+pub built-decided : (c : Counts) (l : Lists) (others : Outcome) → built_check_of c l Done ≡ Done → built_check_of c l others ≡ others
+unfolding built_check_of
+built-decided c l others h = cond-decided (not (is_built c l)) NotBuilt others h
+
+-- ---- a list that is filled
+
+module _ {o : Outcome} {content old : List Float} where
+  -- a refused call leaves it as it was
+  pub filled-refused : {r : Outcome} {e : Refusal} → o ≡ Err e → r ≡ Err e → Filled o content old r old
+  filled-refused f e = record { answered = e ∙ sym f; entries = rw e refl }
+
+  -- what holds of checks holds of others that say the same
+  pub filled-same : {u r : Outcome} {new : List Float} → o ≡ u → Filled o content old r new → Filled u content old r new
+  filled-same e f = record { answered = f.answered ∙ e; entries = f.entries }

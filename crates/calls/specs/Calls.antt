@@ -41,8 +41,6 @@ triangle_check_of c t = cond (ltb t c.triangles) Done (Err BadIndex)
 abbrev pub short_table : Counts → ℕ → ℕ → Bool
 short_table c deficits kinds = ltb deficits c.triangles || ltb kinds c.triangles
 
--- ---- answers
-
 -- ---- lent lists
 
 -- a list of numbers: the answer r of checks that say o, and the list after the call, its beginning filled where there is an answer

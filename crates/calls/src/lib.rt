@@ -5,15 +5,16 @@ mod built;
 
 ghost use Rattle.std.specs.Prelude.{◌≡◌, ◌≤◌};
 ghost use Rattle.refusals.specs.Refusals.{Done};
-ghost use Rattle.calls.specs.Calls.{lengths_check_of, free_check_of, room_check_of, triangle_check_of};
+ghost use Rattle.calls.specs.Calls.{lengths_check_of, free_check_of, room_check_of, triangle_check_of, short_table};
 
-pub use built::BuiltComplex;
+pub use built::{BuiltComplex, check_noting};
 use complex::{Counts, too_large};
 use incidence::TriangleNumber;
 use marks::stands_twice;
 use refusals::Refusal;
 
 // 8 where there are not as many lengths as edges.
+#[tactic(auto, unfolding(crate::specs::Calls::lengths_check_of))]
 pub fn check_lengths(counts: Counts, lengths: usize) -> Result<(), Refusal>
     ensures { result ≡ lengths_check_of counts lengths Done }
 {
@@ -24,6 +25,7 @@ pub fn check_lengths(counts: Counts, lengths: usize) -> Result<(), Refusal>
 }
 
 // 9 where a free edge is not below the number of edges, then 10 where one stands twice.
+#[tactic(auto, unfolding(crate::specs::Calls::free_check_of))]
 pub fn check_free(counts: Counts, free_edges: &[u32]) -> Result<(), Refusal>
     requires { counts.edges ≤ 81920 }
     ensures { result ≡ free_check_of counts free_edges.now Done }
@@ -38,6 +40,7 @@ pub fn check_free(counts: Counts, free_edges: &[u32]) -> Result<(), Refusal>
 }
 
 // 5 where an output is short.
+#[tactic(auto, unfolding(crate::specs::Calls::room_check_of))]
 pub fn check_room(short: bool) -> Result<(), Refusal>
     ensures { result ≡ room_check_of short }
 {
@@ -47,7 +50,19 @@ pub fn check_room(short: bool) -> Result<(), Refusal>
     Ok(())
 }
 
+// 5 where a list of deficits or of kinds has fewer places than there are triangles.
+#[tactic(auto, unfolding(crate::specs::Calls::room_check_of))]
+pub fn check_table(counts: Counts, deficits: usize, kinds: usize) -> Result<(), Refusal>
+    ensures { result ≡ room_check_of (short_table counts deficits kinds) }
+{
+    if deficits < counts.triangles || kinds < counts.triangles {
+        return Err(Refusal::ShortRoom);
+    }
+    Ok(())
+}
+
 // 11 where there is no triangle of that number.
+#[tactic(auto, unfolding(crate::specs::Calls::triangle_check_of))]
 pub fn check_triangle(counts: Counts, tri: TriangleNumber) -> Result<(), Refusal>
     ensures { result ≡ triangle_check_of counts tri.0 }
 {

@@ -28,7 +28,7 @@ module _ (c : Counts) (l : Lists) (ls : List Float) (free : List ℕ) (h : is_bu
       let b = said (built-says c l) h in
       ap (λ (F : FaceLists). local_hinges F ls free) (built-faces c l b) ∙ sym (local-hinge ps ls (built-sorted c l b) (built-wide c l b) free)
 
-  -- demand 2: the local gradient as the Rust sums it is the global entry of each free edge, bit for bit
+  -- the local gradient as the Rust sums it is the global entry of each free edge, bit for bit
   pub built_local-gradient : Below free c.edges → local_gradient (faces_in c l.pents l.edges l.triangles) ls free ≡ summed_gradient (built_faces ps) (tri_to_pents ps) ls free
   built_local-gradient below =
       let b = said (built-says c l) h in

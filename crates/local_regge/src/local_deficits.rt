@@ -1,42 +1,48 @@
 // The deficits of the triangles on free edges.
-ghost use Rattle.std.specs.Prelude.{◌≡◌, map, ℕ, ◌≤◌, ◌<◌, length, get_or, take};
+ghost use Rattle.std.specs.Prelude.{◌≡◌, ◌||◌, map, ◌≤◌, ltb, length};
 ghost use Rattle.lists.specs.Rows.{over};
+ghost use Rattle.lists.specs.Groups.{Below};
 ghost use Rattle.complex.specs.Lent.{lists_of};
 ghost use Rattle.hinges.specs.Hinges.{faces_of, hinges, hinge_in, deficits_of, kinds_of};
-ghost use Rattle.hinges.specs.Parts.{IsMeasured};
 ghost use Rattle.calls.specs.Calls.{lengths_check_of, free_check_of, built_check_of, room_check_of};
 ghost use Rattle.local_regge.specs.LocalCalls.{short_local, LocallyTabled};
 
-use calls::{BuiltComplex, check_free, check_lengths, check_room};
-use comparison::is_built_noting;
+use calls::{BuiltComplex, check_free, check_lengths, check_noting, check_room};
 use complex::{Complex, Incidence};
 use hinges::hinge_at;
 use incidence::TriangleNumber;
 use marks::{count_marked, list_marked, mark_tris};
 use refusals::Refusal;
 
-// Writes the deficits and kinds of the first `count` triangles of a list.
+// Whether a list has fewer than `count` places.
+fn lacks_room(count: usize, tris: usize, deficits: usize, kinds: usize) -> bool
+    ensures { result ≡ (ltb tris count || ltb deficits count || ltb kinds count) }
+{
+    tris < count || deficits < count || kinds < count
+}
+
+// Writes the deficits and kinds of the triangles of a list.
 fn write_hinges(
-    complex: &Complex<'_>,
-    incidence: &Incidence<'_>,
+    built: &BuiltComplex<'_>,
     sq_lengths: &[f64],
-    count: usize,
     tris: &[u32],
     deficits: &mut [f64],
     kinds: &mut [u8],
 )
-    requires { IsMeasured complex.now incidence.now (length sq_lengths.now)
-        × (count ≤ 81920) × (count ≤ length tris.now) × ((k : ℕ) → k < count → get_or tris.now k 0 < complex.now.counts.triangles) × (count ≤ length deficits.old) × (count ≤ length kinds.old) }
-    ensures { (deficits.new ≡ over (deficits_of (map (hinge_in (hinges (faces_of complex.now) sq_lengths.now)) (take count tris.now))) deficits.old)
-        × (kinds.new ≡ over (kinds_of (map (hinge_in (hinges (faces_of complex.now) sq_lengths.now)) (take count tris.now))) kinds.old) }
+    requires { (length sq_lengths.now ≡ built.now.complex.counts.edges) × Below tris.now built.now.complex.counts.triangles
+        × (length tris.now ≤ length deficits.old) × (length tris.now ≤ length kinds.old) }
+    ensures { (deficits.new ≡ over (deficits_of (map (hinge_in (hinges (faces_of built.now.complex) sq_lengths.now)) tris.now)) deficits.old)
+        × (kinds.new ≡ over (kinds_of (map (hinge_in (hinges (faces_of built.now.complex) sq_lengths.now)) tris.now)) kinds.old) }
 {
-    let mut k = 0;
-    while k < count {
-        let hinge = hinge_at(complex, incidence, sq_lengths, TriangleNumber(tris[k]));
-        let kind = hinge.kind;
+    for (k, t) in tris.iter().enumerate() {
+        let hinge = hinge_at(
+            &built.complex,
+            &built.incidence,
+            sq_lengths,
+            TriangleNumber(*t),
+        );
         deficits[k] = hinge.deficit;
-        kinds[k] = kind.number();
-        k += 1;
+        kinds[k] = hinge.kind.number();
     }
 }
 
@@ -56,12 +62,12 @@ pub fn local_deficit_angles_built(
     let counts = built.complex.counts;
     check_lengths(counts, sq_lengths.len())?;
     check_free(counts, free_edges)?;
-    let mut marks = [0u8; 81920];
+    let mut marks = [false; 81920];
     mark_tris(&built.complex, free_edges, &mut marks);
     let count = count_marked(counts.triangles, &marks);
-    check_room(tris.len() < count || deficits.len() < count || kinds.len() < count)?;
+    check_room(lacks_room(count, tris.len(), deficits.len(), kinds.len()))?;
     list_marked(counts.triangles, &marks, tris);
-    write_hinges(&built.complex, &built.incidence, sq_lengths, count, tris, deficits, kinds);
+    write_hinges(built, sq_lengths, &tris[..count], deficits, kinds);
     Ok(count)
 }
 
@@ -82,9 +88,7 @@ pub fn local_deficit_angles(
 {
     let mut pent_edges = [0u32; 81920];
     let mut pent_tris = [0u32; 81920];
-    if !is_built_noting(complex, &mut pent_edges, &mut pent_tris) {
-        return Err(Refusal::NotBuilt);
-    }
+    check_noting(complex, &mut pent_edges, &mut pent_tris)?;
     let incidence = Incidence {
         pent_edges: &pent_edges,
         pent_tris: &pent_tris,

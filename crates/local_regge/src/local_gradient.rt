@@ -10,12 +10,10 @@ ghost use Rattle.complex.specs.Lent.{lists_of};
 ghost use Rattle.marks.specs.Marks.{marked_below};
 ghost use Rattle.hinges.specs.Hinges.{faces_of, hinges, deficits_of};
 ghost use Rattle.hinges.specs.Action.{contributions};
-ghost use Rattle.hinges.specs.Parts.{IsMeasured};
 ghost use Rattle.calls.specs.Calls.{lengths_check_of, free_check_of, built_check_of, room_check_of};
 ghost use Rattle.local_regge.specs.LocalCalls.{LocallyGraded};
 
-use calls::{BuiltComplex, check_free, check_lengths, check_room};
-use comparison::is_built_noting;
+use calls::{BuiltComplex, check_free, check_lengths, check_noting, check_room};
 use complex::{Complex, Incidence};
 use hinges::{add_contributions, hinge_at, tri_sq_lengths};
 use incidence::{TriangleNumber, tri_edge_indices};
@@ -24,25 +22,23 @@ use refusals::Refusal;
 
 // What the marked triangles add at their edges, in their order.
 fn add_marked_contributions(
-    complex: &Complex<'_>,
-    incidence: &Incidence<'_>,
+    built: &BuiltComplex<'_>,
     sq_lengths: &[f64],
-    marks: &[u8],
+    marks: &[bool],
     entries: &mut [f64],
 )
-    requires { IsMeasured complex.now incidence.now (length sq_lengths.now)
-        × (complex.now.counts.triangles ≤ length marks.now) × (complex.now.counts.edges ≤ length entries.old) }
-    ensures { entries.new ≡ scatter nan ◌⊕◌ (gather (contributions (faces_of complex.now) sq_lengths.now (deficits_of (hinges (faces_of complex.now) sq_lengths.now))) (marked_below complex.now.counts.triangles marks.now)) entries.old }
+    requires { (length sq_lengths.now ≡ built.now.complex.counts.edges)
+        × (built.now.complex.counts.triangles ≤ length marks.now) × (built.now.complex.counts.edges ≤ length entries.old) }
+    ensures { entries.new ≡ scatter nan ◌⊕◌ (gather (contributions (faces_of built.now.complex) sq_lengths.now (deficits_of (hinges (faces_of built.now.complex) sq_lengths.now))) (marked_below built.now.complex.counts.triangles marks.now)) entries.old }
 {
-    let mut t = 0u32;
-    while (t as usize) < complex.counts.triangles {
-        if marks[t as usize] == 1 {
-            let own = tri_edge_indices(complex, incidence, TriangleNumber(t));
+    for t in 0..built.complex.counts.triangles as u32 {
+        if marks[t as usize] {
+            let tri = TriangleNumber(t);
+            let own = tri_edge_indices(&built.complex, &built.incidence, tri);
             let s = tri_sq_lengths(own, sq_lengths);
-            let hinge = hinge_at(complex, incidence, sq_lengths, TriangleNumber(t));
+            let hinge = hinge_at(&built.complex, &built.incidence, sq_lengths, tri);
             add_contributions(own, s, hinge.deficit, entries);
         }
-        t += 1;
     }
 }
 
@@ -51,10 +47,8 @@ fn write_entries(free_edges: &[u32], entries: &[f64], grad: &mut [f64])
     requires { Below free_edges.now (length entries.now) × (length free_edges.now ≤ length grad.old) }
     ensures { grad.new ≡ over (map (λ e. get_or entries.now e nan) free_edges.now) grad.old }
 {
-    let mut k = 0;
-    while k < free_edges.len() {
-        grad[k] = entries[free_edges[k] as usize];
-        k += 1;
+    for (k, e) in free_edges.iter().enumerate() {
+        grad[k] = entries[*e as usize];
     }
 }
 
@@ -73,10 +67,10 @@ pub fn local_lorentzian_regge_action_grad_built(
     check_lengths(counts, sq_lengths.len())?;
     check_free(counts, free_edges)?;
     check_room(grad.len() < free_edges.len())?;
-    let mut marks = [0u8; 81920];
+    let mut marks = [false; 81920];
     mark_tris(&built.complex, free_edges, &mut marks);
     let mut entries = [0.0; 81920];
-    add_marked_contributions(&built.complex, &built.incidence, sq_lengths, &marks, &mut entries);
+    add_marked_contributions(built, sq_lengths, &marks, &mut entries);
     write_entries(free_edges, &entries, grad);
     Ok(())
 }
@@ -95,9 +89,7 @@ pub fn local_lorentzian_regge_action_grad(
 {
     let mut pent_edges = [0u32; 81920];
     let mut pent_tris = [0u32; 81920];
-    if !is_built_noting(complex, &mut pent_edges, &mut pent_tris) {
-        return Err(Refusal::NotBuilt);
-    }
+    check_noting(complex, &mut pent_edges, &mut pent_tris)?;
     let incidence = Incidence {
         pent_edges: &pent_edges,
         pent_tris: &pent_tris,

@@ -5,8 +5,7 @@ ghost use Rattle.hinges.specs.Hinges.{faces_of};
 ghost use Rattle.hessian.specs.Hessian.{local_hessian};
 ghost use Rattle.calls.specs.Calls.{lengths_check_of, free_check_of, built_check_of, room_check_of, Filled};
 
-use calls::{BuiltComplex, check_free, check_lengths, check_room};
-use comparison::is_built_noting;
+use calls::{BuiltComplex, check_free, check_lengths, check_noting, check_room};
 use complex::{Complex, Incidence};
 use hessian::write_hessian;
 use refusals::Refusal;
@@ -28,7 +27,14 @@ pub fn local_lorentzian_regge_hessian_built(
     check_free(counts, free_edges)?;
     let n = free_edges.len();
     check_room(hessian.len() < n * n)?;
-    write_hessian(&built.complex, &built.incidence, sq_lengths, free_edges, fd_eps, hessian);
+    write_hessian(
+        &built.complex,
+        &built.incidence,
+        sq_lengths,
+        free_edges,
+        fd_eps,
+        hessian,
+    );
     Ok(())
 }
 
@@ -47,9 +53,7 @@ pub fn local_lorentzian_regge_hessian(
 {
     let mut pent_edges = [0u32; 81920];
     let mut pent_tris = [0u32; 81920];
-    if !is_built_noting(complex, &mut pent_edges, &mut pent_tris) {
-        return Err(Refusal::NotBuilt);
-    }
+    check_noting(complex, &mut pent_edges, &mut pent_tris)?;
     let incidence = Incidence {
         pent_edges: &pent_edges,
         pent_tris: &pent_tris,

@@ -1,2 +1,3 @@
 -- Laws on calls over a complex.
 pub mod Scratch
+pub mod Tables

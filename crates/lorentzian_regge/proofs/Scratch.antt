@@ -18,14 +18,16 @@ use Rattle.lists.proofs.Elements.{get_or-mem, gather-same, mem-gather, mem-upto}
 use Rattle.lists.proofs.Loops.{length-scatter, scatter-front}
 use Rattle.lists.proofs.Folds.{fold_same}
 use Rattle.lists.proofs.Rows.{length-rows}
-use Rattle.complex.specs.declared.Counts.{Counts}
-use Rattle.complex.specs.Check.{edges_in, triangles_in}
+use Rattle.complex.specs.declared.Complex.{Complex}
+use Rattle.complex.specs.Lent.{edges_of, triangles_of}
 use Rattle.complex.proofs.FaceNumbers.{three-edges}
-use Rattle.hinges.specs.Hinges.{FaceLists, faces_in, hinges, deficits_of}
+use Rattle.hinges.specs.Hinges.{FaceLists, faces_of, hinges, deficits_of}
 use Rattle.hinges.specs.Action.{edges_at, tri_lengths, abs_area, area_limit, action_of, action, at_three, contribution_of, contributions_of, contributions, gradient_of, gradient}
-use Rattle.hinges.specs.Parts.{Measured}
+use Rattle.hinges.specs.Parts.{IsMeasured}
 use Rattle.hinges.proofs.OnePass.{length-hinges}
 use Rattle.hinges.proofs.TriangleSteps.{edges-below}
+use Rattle.calls.specs.declared.built.BuiltComplex.{BuiltComplex}
+use Rattle.calls.proofs.BuiltCalls.{measured}
 
 -- ---- the front of a list
 
@@ -63,37 +65,44 @@ three-below es xs n l b a m =
     at : (i : ℕ) → i < 3 → a ≡ (get_or es i 0, get_or xs i nan) → a.0 < n
     at i h e = subst (λ (k : ℕ). k < n) (sym (ap (λ (b : ℕ × Float). b.0) e)) (b i (omega arith))
 
-module _ (c : Counts) (pents edges triangles items ss pe pt : List ℕ) (n : ℕ) (ok : Measured c pents edges triangles items ss pe pt n) (ls ds : List Float) where
+module _ (b : BuiltComplex) (ls ds : List Float) where
+  abbrev x : Complex
+  x = b.complex
+
   abbrev F : FaceLists
-  F = faces_in c pents edges triangles
+  F = faces_of b.complex
 
   -- what a triangle adds goes to an edge
-  contributions-below : (t : ℕ) → t < c.triangles → (a : ℕ × Float) → Memᴰ a (contributions F ls ds t) → a.0 < c.edges
+  contributions-below : (t : ℕ) → t < x.counts.triangles → (a : ℕ × Float) → Memᴰ a (contributions F ls ds t) → a.0 < x.counts.edges
   unfolding contributions contributions_of
   contributions-below t h a m = go (lt (abs_area (tri_lengths F ls t)) area_limit) m
     where
       s : List ℕ
-      s = get_or (triangles_in c triangles) t []
+      s = get_or (triangles_of x) t []
 
-      go : (b : Bool) → Memᴰ a (cond b [] (at_three (edges_at F t) (contribution_of (tri_lengths F ls t) (abs_area (tri_lengths F ls t)) (get_or ds t nan)))) → a.0 < c.edges
+      ok : IsMeasured x b.incidence x.counts.edges
+      ok = measured b x.counts.edges refl
+
+      go : (c : Bool) → Memᴰ a (cond c [] (at_three (edges_at F t) (contribution_of (tri_lengths F ls t) (abs_area (tri_lengths F ls t)) (get_or ds t nan)))) → a.0 < x.counts.edges
       go true k = absurd (Memᴰ.not-nil k)
       go false k =
-          three-below (edges_at F t) (contribution_of (tri_lengths F ls t) (abs_area (tri_lengths F ls t)) (get_or ds t nan)) c.edges
-          (length-map (combos s 2) (λ r. find r (edges_in c edges)) ∙ three-edges s (ok.simplices.triangle s (get_or-mem (triangles_in c triangles) t [] (rw (length-rows 3 c.triangles triangles) h))).1)
-          (edges-below ok t h (edges_at F t) refl c.edges (omega arith)) a k
+          three-below (edges_at F t) (contribution_of (tri_lengths F ls t) (abs_area (tri_lengths F ls t)) (get_or ds t nan)) x.counts.edges
+          (length-map (combos s 2) (λ r. find r (edges_of x)) ∙ three-edges s (ok.simplices.triangle s (get_or-mem (triangles_of x) t [] (rw (length-rows 3 x.counts.triangles x.triangles.now) h))).1)
+          (edges-below ok t h (edges_at F t) refl x.counts.edges (omega arith)) a k
 
   -- the entries of a list that begins with zeros
-  pub entries_over : (old zeros new : List Float) → zeros ≡ over (replicate c.edges zero) old → new ≡ scatter nan ◌⊕◌ (gather (contributions F ls ds) (upto c.triangles)) zeros → new ≡ over (gradient_of F ls ds) old
+  pub entries_over : (old zeros new : List Float) → zeros ≡ over (replicate x.counts.edges zero) old → new ≡ scatter nan ◌⊕◌ (gather (contributions F ls ds) (upto x.counts.triangles)) zeros → new ≡ over (gradient_of F ls ds) old
   unfolding over gradient_of
   entries_over old zeros new z e =
-      let es = gather (contributions F ls ds) (upto c.triangles) in
-      let E : length (edges_in c edges) ≡ c.edges = length-rows 2 c.edges edges in
-      let T : length (triangles_in c triangles) ≡ c.triangles = length-rows 3 c.triangles triangles in
-      let r = replicate c.edges zero in
+      let n = x.counts.edges in
+      let es = gather (contributions F ls ds) (upto x.counts.triangles) in
+      let E : length (edges_of x) ≡ n = length-rows 2 n x.edges.now in
+      let T : length (triangles_of x) ≡ x.counts.triangles = length-rows 3 x.counts.triangles x.triangles.now in
+      let r = replicate n zero in
       e
-      ∙ ap (scatter nan ◌⊕◌ es) (z ∙ ap (λ (k : ℕ). r ++ drop k old) (length-replicate c.edges zero))
-      ∙ scatter-front nan ◌⊕◌ es r (drop c.edges old)
+      ∙ ap (scatter nan ◌⊕◌ es) (z ∙ ap (λ (k : ℕ). r ++ drop k old) (length-replicate n zero))
+      ∙ scatter-front nan ◌⊕◌ es r (drop n old)
       (λ a m.
-      let w = mem-gather (contributions F ls ds) (upto c.triangles) m in
-      subst (λ (k : ℕ). a.0 < k) (sym (length-replicate c.edges zero)) (contributions-below w.0 (mem-upto c.triangles w.0 w.1) a w.2))
-      ∙ rw (E, T, length-scatter nan ◌⊕◌ es r, length-replicate c.edges zero) refl
+      let w = mem-gather (contributions F ls ds) (upto x.counts.triangles) m in
+      subst (λ (k : ℕ). a.0 < k) (sym (length-replicate n zero)) (contributions-below w.0 (mem-upto x.counts.triangles w.0 w.1) a w.2))
+      ∙ rw (E, T, length-scatter nan ◌⊕◌ es r, length-replicate n zero) refl

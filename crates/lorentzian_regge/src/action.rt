@@ -4,11 +4,9 @@ ghost use Rattle.refusals.specs.Refusals.{Done, answer_by};
 ghost use Rattle.complex.specs.Lent.{lists_of};
 ghost use Rattle.hinges.specs.Hinges.{faces_of};
 ghost use Rattle.hinges.specs.Action.{action_of, action};
-ghost use Rattle.hinges.specs.Parts.{IsMeasured};
 ghost use Rattle.calls.specs.Calls.{lengths_check_of, built_check_of};
 
-use calls::{BuiltComplex, check_lengths};
-use comparison::is_built_noting;
+use calls::{BuiltComplex, check_lengths, check_noting};
 use complex::{Complex, Incidence};
 use hinges::{abs_area, tri_sq_lengths};
 use incidence::{TriangleNumber, tri_edge_indices};
@@ -16,22 +14,15 @@ use one_pass::write_table;
 use refusals::Refusal;
 
 // The sum of all areas, each times its deficit.
-fn sum_up(
-    complex: &Complex<'_>,
-    incidence: &Incidence<'_>,
-    sq_lengths: &[f64],
-    deficits: &[f64],
-) -> f64
-    requires { IsMeasured complex.now incidence.now (length sq_lengths.now) × (complex.now.counts.triangles ≤ length deficits.now) }
-    ensures { result ≡ action_of (faces_of complex.now) sq_lengths.now deficits.now }
+fn sum_up(built: &BuiltComplex<'_>, sq_lengths: &[f64], deficits: &[f64]) -> f64
+    requires { (length sq_lengths.now ≡ built.now.complex.counts.edges) × (built.now.complex.counts.triangles ≤ length deficits.now) }
+    ensures { result ≡ action_of (faces_of built.now.complex) sq_lengths.now deficits.now }
 {
     let mut action = 0.0;
-    let mut t = 0u32;
-    while (t as usize) < complex.counts.triangles {
-        let own = tri_edge_indices(complex, incidence, TriangleNumber(t));
+    for t in 0..built.complex.counts.triangles as u32 {
+        let own = tri_edge_indices(&built.complex, &built.incidence, TriangleNumber(t));
         let area = abs_area(tri_sq_lengths(own, sq_lengths));
         action += area * deficits[t as usize];
-        t += 1;
     }
     action
 }
@@ -47,8 +38,14 @@ pub fn lorentzian_regge_action_built(
     check_lengths(built.complex.counts, sq_lengths.len())?;
     let mut deficits = [0.0; 81920];
     let mut kinds = [0u8; 81920];
-    write_table(&built.complex, &built.incidence, sq_lengths, &mut deficits, &mut kinds);
-    Ok(sum_up(&built.complex, &built.incidence, sq_lengths, &deficits))
+    write_table(
+        &built.complex,
+        &built.incidence,
+        sq_lengths,
+        &mut deficits,
+        &mut kinds,
+    );
+    Ok(sum_up(built, sq_lengths, &deficits))
 }
 
 // `lorentzian_regge_action`: the sum of all areas, each times its deficit; no triangle is skipped.
@@ -59,9 +56,7 @@ pub fn lorentzian_regge_action(complex: &Complex<'_>, sq_lengths: &[f64]) -> Res
 {
     let mut pent_edges = [0u32; 81920];
     let mut pent_tris = [0u32; 81920];
-    if !is_built_noting(complex, &mut pent_edges, &mut pent_tris) {
-        return Err(Refusal::NotBuilt);
-    }
+    check_noting(complex, &mut pent_edges, &mut pent_tris)?;
     let incidence = Incidence {
         pent_edges: &pent_edges,
         pent_tris: &pent_tris,

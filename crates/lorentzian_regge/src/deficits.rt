@@ -6,8 +6,7 @@ ghost use Rattle.hinges.specs.Hinges.{faces_of, hinges, hinge_in};
 ghost use Rattle.calls.specs.Calls.{lengths_check_of, built_check_of, room_check_of, triangle_check_of, short_table};
 ghost use Rattle.lorentzian_regge.specs.Answers.{Tabled};
 
-use calls::{BuiltComplex, check_lengths, check_room, check_triangle};
-use comparison::is_built_noting;
+use calls::{BuiltComplex, check_lengths, check_noting, check_table, check_triangle};
 use complex::{Complex, Incidence};
 use hinges::{Hinge, hinge_at};
 use incidence::TriangleNumber;
@@ -29,8 +28,14 @@ pub fn lorentzian_deficit_angles_built(
 {
     let counts = built.complex.counts;
     check_lengths(counts, sq_lengths.len())?;
-    check_room(deficits.len() < counts.triangles || kinds.len() < counts.triangles)?;
-    write_table(&built.complex, &built.incidence, sq_lengths, deficits, kinds);
+    check_table(counts, deficits.len(), kinds.len())?;
+    write_table(
+        &built.complex,
+        &built.incidence,
+        sq_lengths,
+        deficits,
+        kinds,
+    );
     Ok(())
 }
 
@@ -46,11 +51,10 @@ pub fn lorentzian_deficit_angles(
         (lengths_check_of complex.now.counts (length sq_lengths.now) (room_check_of (short_table complex.now.counts (length deficits.old) (length kinds.old)))))
         (faces_of complex.now) sq_lengths.now deficits.old kinds.old result deficits.new kinds.new }
 {
+    // One function for these lines, with the rest of the call as a closure: tried, and the proof didn't close, since what a closure leaves in a lent list where it ends by `?` isn't known.
     let mut pent_edges = [0u32; 81920];
     let mut pent_tris = [0u32; 81920];
-    if !is_built_noting(complex, &mut pent_edges, &mut pent_tris) {
-        return Err(Refusal::NotBuilt);
-    }
+    check_noting(complex, &mut pent_edges, &mut pent_tris)?;
     let incidence = Incidence {
         pent_edges: &pent_edges,
         pent_tris: &pent_tris,
@@ -91,9 +95,7 @@ pub fn lorentzian_deficit_angle(
 {
     let mut pent_edges = [0u32; 81920];
     let mut pent_tris = [0u32; 81920];
-    if !is_built_noting(complex, &mut pent_edges, &mut pent_tris) {
-        return Err(Refusal::NotBuilt);
-    }
+    check_noting(complex, &mut pent_edges, &mut pent_tris)?;
     let incidence = Incidence {
         pent_edges: &pent_edges,
         pent_tris: &pent_tris,

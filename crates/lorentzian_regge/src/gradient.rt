@@ -7,12 +7,10 @@ ghost use Rattle.lists.specs.Loops.{scatter};
 ghost use Rattle.complex.specs.Lent.{lists_of};
 ghost use Rattle.hinges.specs.Hinges.{faces_of};
 ghost use Rattle.hinges.specs.Action.{contributions};
-ghost use Rattle.hinges.specs.Parts.{IsMeasured};
 ghost use Rattle.calls.specs.Calls.{lengths_check_of, built_check_of, room_check_of};
 ghost use Rattle.lorentzian_regge.specs.Answers.{short_gradient, Graded};
 
-use calls::{BuiltComplex, check_lengths, check_room};
-use comparison::is_built_noting;
+use calls::{BuiltComplex, check_lengths, check_noting, check_room};
 use complex::{Complex, Incidence};
 use hinges::{add_contributions, tri_sq_lengths, zero_all};
 use incidence::{TriangleNumber, tri_edge_indices};
@@ -21,22 +19,19 @@ use refusals::Refusal;
 
 // What all triangles add, in their order.
 fn add_all_contributions(
-    complex: &Complex<'_>,
-    incidence: &Incidence<'_>,
+    built: &BuiltComplex<'_>,
     sq_lengths: &[f64],
     deficits: &[f64],
     grad: &mut [f64],
 )
-    requires { IsMeasured complex.now incidence.now (length sq_lengths.now)
-        × (complex.now.counts.triangles ≤ length deficits.now) × (complex.now.counts.edges ≤ length grad.old) }
-    ensures { grad.new ≡ scatter nan ◌⊕◌ (gather (contributions (faces_of complex.now) sq_lengths.now deficits.now) (upto complex.now.counts.triangles)) grad.old }
+    requires { (length sq_lengths.now ≡ built.now.complex.counts.edges)
+        × (built.now.complex.counts.triangles ≤ length deficits.now) × (built.now.complex.counts.edges ≤ length grad.old) }
+    ensures { grad.new ≡ scatter nan ◌⊕◌ (gather (contributions (faces_of built.now.complex) sq_lengths.now deficits.now) (upto built.now.complex.counts.triangles)) grad.old }
 {
-    let mut t = 0u32;
-    while (t as usize) < complex.counts.triangles {
-        let own = tri_edge_indices(complex, incidence, TriangleNumber(t));
+    for t in 0..built.complex.counts.triangles as u32 {
+        let own = tri_edge_indices(&built.complex, &built.incidence, TriangleNumber(t));
         let s = tri_sq_lengths(own, sq_lengths);
         add_contributions(own, s, deficits[t as usize], grad);
-        t += 1;
     }
 }
 
@@ -55,9 +50,15 @@ pub fn lorentzian_regge_action_grad_built(
     check_room(grad.len() < counts.edges)?;
     let mut deficits = [0.0; 81920];
     let mut kinds = [0u8; 81920];
-    write_table(&built.complex, &built.incidence, sq_lengths, &mut deficits, &mut kinds);
+    write_table(
+        &built.complex,
+        &built.incidence,
+        sq_lengths,
+        &mut deficits,
+        &mut kinds,
+    );
     zero_all(counts.edges, grad);
-    add_all_contributions(&built.complex, &built.incidence, sq_lengths, &deficits, grad);
+    add_all_contributions(built, sq_lengths, &deficits, grad);
     Ok(())
 }
 
@@ -74,9 +75,7 @@ pub fn lorentzian_regge_action_grad(
 {
     let mut pent_edges = [0u32; 81920];
     let mut pent_tris = [0u32; 81920];
-    if !is_built_noting(complex, &mut pent_edges, &mut pent_tris) {
-        return Err(Refusal::NotBuilt);
-    }
+    check_noting(complex, &mut pent_edges, &mut pent_tris)?;
     let incidence = Incidence {
         pent_edges: &pent_edges,
         pent_tris: &pent_tris,

@@ -8,8 +8,8 @@ mod gradient;
 
 pub use action::{lorentzian_regge_action, lorentzian_regge_action_built};
 pub use deficits::{
-    lorentzian_deficit_angle, lorentzian_deficit_angle_built,
-    lorentzian_deficit_angles, lorentzian_deficit_angles_built,
+    lorentzian_deficit_angle, lorentzian_deficit_angle_built, lorentzian_deficit_angles,
+    lorentzian_deficit_angles_built,
 };
 pub use gradient::{lorentzian_regge_action_grad, lorentzian_regge_action_grad_built};
 pub use hinges::Hinge;

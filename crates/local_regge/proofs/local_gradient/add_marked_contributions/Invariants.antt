@@ -1,8 +1,6 @@
 -- `local_regge::local_gradient::add_marked_contributions` meets its contract. Assumes nothing.
-use Prim.Native.Nat.{◌-◌, ◌≤◌}
 use mathlib.Core.Path.{◌≡◌}
 use lib.Ieee.{nan}
-use lib.ListN.{length}
 use Rattle.floats.specs.Ops.{◌⊕◌}
 use Rattle.lists.specs.Lists.{gather}
 use Rattle.lists.specs.Loops.{scatter}
@@ -12,8 +10,4 @@ use Rattle.hinges.specs.Action.{contributions}
 use Rattle.local_regge.proofs.local_gradient.add_marked_contributions.Given as goal
 
 abbrev pub invariant-loop-t : goal.invariant-loop-t
-invariant-loop-t l = (l.t ≤ l.complex.counts.triangles) × (length l.entries ≡ length l.initial.entries)
-    × (l.entries ≡ scatter nan ◌⊕◌ (gather (contributions (faces_of l.complex) l.sq_lengths (deficits_of (hinges (faces_of l.complex) l.sq_lengths))) (marked_below l.t l.marks)) l.initial.entries)
-
-abbrev pub decreases-loop-t : goal.decreases-loop-t
-decreases-loop-t l = l.complex.counts.triangles - l.t
+invariant-loop-t l = l.entries ≡ scatter nan ◌⊕◌ (gather (contributions (faces_of l.built.complex) l.sq_lengths (deficits_of (hinges (faces_of l.built.complex) l.sq_lengths))) (marked_below l.t l.marks)) l.initial.entries

@@ -1,27 +1,10 @@
 -- `local_regge::local_hessian::local_lorentzian_regge_hessian` meets its contract. Assumes nothing.
-use Prim.Native.Nat.{◌*◌}
-use mathlib.Core.Path.{refl, sym, ◌∙◌}
-use lib.Dec.{ltb}
-use lib.ListN.{length}
-use Rattle.complex.specs.Lent.{lists_of}
-use Rattle.comparison.proofs.Comparisons.{noted_of}
-use Rattle.calls.specs.Calls.{lengths_check_of, free_check_of, room_check_of}
-use Rattle.calls.proofs.BuiltCalls.{not-built, others-decide}
+use mathlib.Core.Path.{sym}
+use Rattle.calls.proofs.BuiltCalls.{returned, built-refused, built-decided, filled-refused, filled-same}
 use Rattle.local_regge.proofs.local_hessian.local_lorentzian_regge_hessian.Goals as goal
 
-pub returns-then-not-is_built_noting : goal.returns-then-not-is_built_noting
-returns-then-not-is_built_noting c =
-    let a = c.args in
-    record { answered = sym (not-built a.complex.now.counts (lists_of a.complex.now) (lengths_check_of a.complex.now.counts (length a.sq_lengths.now) (free_check_of a.complex.now.counts a.free_edges.now (room_check_of (ltb (length a.hessian.now) (length a.free_edges.now * length a.free_edges.now))))) (sym c.is_built_noting.ensures.value ∙ c.if-not-is_built_noting.true)); entries = refl }
-
-pub local_lorentzian_regge_hessian_built-requires : goal.local_lorentzian_regge_hessian_built-requires
-local_lorentzian_regge_hessian_built-requires c =
-    let h = c.if-not-is_built_noting.false in
-    record { built = sym c.is_built_noting.ensures.value ∙ h; noted = noted_of c.is_built_noting.ensures.noting h }
+pub returns-in_err-check_noting : goal.returns-in_err-check_noting
+returns-in_err-check_noting c = filled-refused (built-refused _ _ _ (sym c.in_err-check_noting.ensures.outcome)) (returned _ _ c.from_residual.ensures.1)
 
 pub returns : goal.returns
-returns c =
-    let a = c.args in
-    let h = c.if-not-is_built_noting.false in
-    let g = c.local_lorentzian_regge_hessian_built.ensures in
-    record { answered = g.answered ∙ sym (others-decide a.complex.now.counts (lists_of a.complex.now) (lengths_check_of a.complex.now.counts (length a.sq_lengths.now) (free_check_of a.complex.now.counts a.free_edges.now (room_check_of (ltb (length a.hessian.now) (length a.free_edges.now * length a.free_edges.now))))) (sym c.is_built_noting.ensures.value ∙ h)); entries = g.entries }
+returns c = filled-same (sym (built-decided _ _ _ (sym c.in_ok-check_noting.ensures.outcome))) c.local_lorentzian_regge_hessian_built.ensures

@@ -1,5 +1,5 @@
 -- `lorentzian_regge::action::sum_up` meets its contract. Assumes nothing.
-use Prim.Native.Nat.{ℕ, ◌-◌, ◌≤◌}
+use Prim.Native.Nat.{ℕ}
 use mathlib.Core.Path.{◌≡◌}
 use mathlib.Core.List.{List, foldl}
 use lib.ListN.{get_or}
@@ -15,7 +15,4 @@ abbrev pub adds : FaceLists → List Float → List Float → Float → ℕ → 
 adds F ls deficits sum t = sum ⊕ abs_area (tri_lengths F ls t) ⊗ get_or deficits t nan
 
 abbrev pub invariant-loop-t : goal.invariant-loop-t
-invariant-loop-t l = (l.t ≤ l.complex.counts.triangles) × (l.action ≡ foldl (adds (faces_of l.complex) l.sq_lengths l.deficits) zero (upto l.t))
-
-abbrev pub decreases-loop-t : goal.decreases-loop-t
-decreases-loop-t l = l.complex.counts.triangles - l.t
+invariant-loop-t l = l.action ≡ foldl (adds (faces_of l.built.complex) l.sq_lengths l.deficits) zero (upto l.t)

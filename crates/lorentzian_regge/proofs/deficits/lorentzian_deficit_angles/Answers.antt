@@ -1,25 +1,11 @@
 -- `lorentzian_regge::deficits::lorentzian_deficit_angles` meets its contract. Assumes nothing.
-use mathlib.Core.Path.{refl, sym, ◌∙◌}
-use lib.ListN.{length}
-use Rattle.complex.specs.Lent.{lists_of}
-use Rattle.comparison.proofs.Comparisons.{noted_of}
-use Rattle.calls.specs.Calls.{lengths_check_of, room_check_of, short_table}
-use Rattle.calls.proofs.BuiltCalls.{not-built, others-decide}
+use mathlib.Core.Path.{sym}
+use Rattle.calls.proofs.BuiltCalls.{returned, built-refused, built-decided}
+use Rattle.lorentzian_regge.proofs.Tables.{table-refused, table-same}
 use Rattle.lorentzian_regge.proofs.deficits.lorentzian_deficit_angles.Goals as goal
 
-pub returns-then-not-is_built_noting : goal.returns-then-not-is_built_noting
-returns-then-not-is_built_noting c =
-    let a = c.args in
-    record { answered = sym (not-built a.complex.now.counts (lists_of a.complex.now) (lengths_check_of a.complex.now.counts (length a.sq_lengths.now) (room_check_of (short_table a.complex.now.counts (length a.deficits.now) (length a.kinds.now)))) (sym c.is_built_noting.ensures.value ∙ c.if-not-is_built_noting.true)); deficits = refl; kinds = refl }
-
-pub lorentzian_deficit_angles_built-requires : goal.lorentzian_deficit_angles_built-requires
-lorentzian_deficit_angles_built-requires c =
-    let h = c.if-not-is_built_noting.false in
-    record { built = sym c.is_built_noting.ensures.value ∙ h; noted = noted_of c.is_built_noting.ensures.noting h }
+pub returns-in_err-check_noting : goal.returns-in_err-check_noting
+returns-in_err-check_noting c = table-refused (built-refused _ _ _ (sym c.in_err-check_noting.ensures.outcome)) (returned _ _ c.from_residual.ensures.1)
 
 pub returns : goal.returns
-returns c =
-    let a = c.args in
-    let h = c.if-not-is_built_noting.false in
-    let t = c.lorentzian_deficit_angles_built.ensures in
-    record { answered = t.answered ∙ sym (others-decide a.complex.now.counts (lists_of a.complex.now) (lengths_check_of a.complex.now.counts (length a.sq_lengths.now) (room_check_of (short_table a.complex.now.counts (length a.deficits.now) (length a.kinds.now)))) (sym c.is_built_noting.ensures.value ∙ h)); deficits = t.deficits; kinds = t.kinds }
+returns c = table-same (sym (built-decided _ _ _ (sym c.in_ok-check_noting.ensures.outcome))) c.lorentzian_deficit_angles_built.ensures

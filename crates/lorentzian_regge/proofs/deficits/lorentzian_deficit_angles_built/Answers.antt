@@ -1,29 +1,31 @@
 -- `lorentzian_regge::deficits::lorentzian_deficit_angles_built` meets its contract. Assumes nothing.
-use Rattle.std.specs.Prelude.{Err}
-use mathlib.Core.Path.{refl, sym, ap, ◌∙◌}
+use Rattle.refusals.specs.Refusals.{Done}
+use mathlib.Core.Path.{sym, ◌∙◌}
 use lib.Dec.{ltb}
 use lib.ListN.{length}
 use borrow.Author.Tests.{ltb-false}
-use Rattle.complex.specs.Lent.{lists_of}
 use Rattle.complex.proofs.Offences.{or-false}
-use Rattle.calls.specs.Calls.{lengths_check_of, room_check_of, short_table}
-use Rattle.calls.proofs.BuiltCalls.{built-measured, lengths-passed, room-passed}
+use Rattle.calls.proofs.BuiltCalls.{measured, returned, lengths-passed, lengths-refused, lengths-decided, room-passed}
+use Rattle.lorentzian_regge.proofs.Tables.{table-refused}
 use Rattle.lorentzian_regge.proofs.deficits.lorentzian_deficit_angles_built.Goals as goal
+
+pub returns-in_err-check_lengths : goal.returns-in_err-check_lengths
+returns-in_err-check_lengths c = table-refused (lengths-refused _ _ _ (sym c.in_err-check_lengths.ensures)) (returned _ _ c.from_residual.ensures.1)
+
+pub returns-in_err-check_table : goal.returns-in_err-check_table
+returns-in_err-check_table c =
+    table-refused (lengths-decided _ _ _ (sym c.in_ok-check_lengths.ensures) ∙ sym c.in_err-check_table.ensures) (returned _ _ c.from_residual-in_err-check_table.ensures.1)
 
 pub write_table-requires : goal.write_table-requires
 write_table-requires c =
     let a = c.args in
-    let p = lengths-passed a.built.now.complex.counts (length a.sq_lengths.now) (room_check_of (short_table a.built.now.complex.counts (length a.deficits.now) (length a.kinds.now))) (sym (c.check_lengths.ensures ∙ ap (lengths_check_of a.built.now.complex.counts (length a.sq_lengths.now)) c.check_room.ensures) ∙ c.in-Ok.is) in
-    let s = or-false (ltb (length a.deficits.now) a.built.now.complex.counts.triangles) (ltb (length a.kinds.now) a.built.now.complex.counts.triangles) (room-passed _ p.1) in
-    ((built-measured a.built.now.complex.counts (lists_of a.built.now.complex) a.built.now.incidence.pent_edges.now a.built.now.incidence.pent_tris.now (length a.sq_lengths.now) c.requires p.0).passable, ltb-false _ _ s.0, ltb-false _ _ s.1)
+    let n = a.built.now.complex.counts.triangles in
+    let s = or-false (ltb (length a.deficits.now) n) (ltb (length a.kinds.now) n) (room-passed _ (sym c.in_ok-check_table.ensures)) in
+    ((measured a.built.now (length a.sq_lengths.now) (lengths-passed _ _ Done (sym c.in_ok-check_lengths.ensures)).0).passable, ltb-false _ _ s.0, ltb-false _ _ s.1)
 
-pub returns-in-Err : goal.returns-in-Err
-returns-in-Err c =
-    let a = c.args in
-    record { answered = sym (sym (c.check_lengths.ensures ∙ ap (lengths_check_of a.built.now.complex.counts (length a.sq_lengths.now)) c.check_room.ensures) ∙ c.in-Err.is); deficits = refl; kinds = refl }
-
-pub returns-in-Ok : goal.returns-in-Ok
-returns-in-Ok c =
-    let a = c.args in
-    let t = c.write_table.ensures in
-    record { answered = sym (sym (c.check_lengths.ensures ∙ ap (lengths_check_of a.built.now.complex.counts (length a.sq_lengths.now)) c.check_room.ensures) ∙ c.in-Ok.is); deficits = t.0; kinds = t.1 }
+pub returns : goal.returns
+returns c = record {
+  answered = c.in_ok-check_table.ensures ∙ sym (lengths-decided _ _ _ (sym c.in_ok-check_lengths.ensures));
+  deficits = c.write_table.ensures.0;
+  kinds = c.write_table.ensures.1;
+}

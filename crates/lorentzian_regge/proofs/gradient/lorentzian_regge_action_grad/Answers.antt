@@ -1,26 +1,10 @@
 -- `lorentzian_regge::gradient::lorentzian_regge_action_grad` meets its contract. Assumes nothing.
-use mathlib.Core.Path.{refl, sym, ◌∙◌}
-use lib.ListN.{length}
-use Rattle.complex.specs.Lent.{lists_of}
-use Rattle.comparison.proofs.Comparisons.{noted_of}
-use Rattle.calls.specs.Calls.{lengths_check_of, room_check_of}
-use Rattle.calls.proofs.BuiltCalls.{not-built, others-decide}
-use Rattle.lorentzian_regge.specs.Answers.{short_gradient}
+use mathlib.Core.Path.{sym}
+use Rattle.calls.proofs.BuiltCalls.{returned, built-refused, built-decided, filled-refused, filled-same}
 use Rattle.lorentzian_regge.proofs.gradient.lorentzian_regge_action_grad.Goals as goal
 
-pub returns-then-not-is_built_noting : goal.returns-then-not-is_built_noting
-returns-then-not-is_built_noting c =
-    let a = c.args in
-    record { answered = sym (not-built a.complex.now.counts (lists_of a.complex.now) (lengths_check_of a.complex.now.counts (length a.sq_lengths.now) (room_check_of (short_gradient a.complex.now.counts (length a.grad.now)))) (sym c.is_built_noting.ensures.value ∙ c.if-not-is_built_noting.true)); entries = refl }
-
-pub lorentzian_regge_action_grad_built-requires : goal.lorentzian_regge_action_grad_built-requires
-lorentzian_regge_action_grad_built-requires c =
-    let h = c.if-not-is_built_noting.false in
-    record { built = sym c.is_built_noting.ensures.value ∙ h; noted = noted_of c.is_built_noting.ensures.noting h }
+pub returns-in_err-check_noting : goal.returns-in_err-check_noting
+returns-in_err-check_noting c = filled-refused (built-refused _ _ _ (sym c.in_err-check_noting.ensures.outcome)) (returned _ _ c.from_residual.ensures.1)
 
 pub returns : goal.returns
-returns c =
-    let a = c.args in
-    let h = c.if-not-is_built_noting.false in
-    let g = c.lorentzian_regge_action_grad_built.ensures in
-    record { answered = g.answered ∙ sym (others-decide a.complex.now.counts (lists_of a.complex.now) (lengths_check_of a.complex.now.counts (length a.sq_lengths.now) (room_check_of (short_gradient a.complex.now.counts (length a.grad.now)))) (sym c.is_built_noting.ensures.value ∙ h)); entries = g.entries }
+returns c = filled-same (sym (built-decided _ _ _ (sym c.in_ok-check_noting.ensures.outcome))) c.lorentzian_regge_action_grad_built.ensures
