@@ -52,7 +52,7 @@ impl FreeMatrix<'_, '_> {
     }
 
     // A value more in a row and a column, where there are such.
-    pub fn add(&mut self, row: usize, col: usize, x: f64)
+    pub(crate) fn add(&mut self, row: usize, col: usize, x: f64)
         ensures { Scattered ◌⊕◌ (placed_in (length self.old.free_edges.now) row col x) self.old self.new }
     {
         if let Some(k) = self.place(row, col) {
@@ -61,7 +61,7 @@ impl FreeMatrix<'_, '_> {
     }
 
     // A value before what a row and a column hold, where there are such.
-    pub fn put_before(&mut self, row: usize, col: usize, x: f64)
+    pub(crate) fn put_before(&mut self, row: usize, col: usize, x: f64)
         ensures { Scattered before (placed_in (length self.old.free_edges.now) row col x) self.old self.new }
     {
         if let Some(k) = self.place(row, col) {

@@ -21,7 +21,7 @@ unfolding writes upto
 loop-t-preserved c =
     let a = c.args in
     let l = c.loop-t in
-    let T = hinges (faces_of a.complex.now) a.sq_lengths.now in (
+    let T = hinges (faces_of a.built.now.complex) a.sq_lengths.now in (
       length-set l.table _ _ ∙ l.invariant.0,
       ap (set l.table l.t) c.hinge_at.ensures
           ∙ ap (λ xs. set xs l.t (hinge_in T l.t)) l.invariant.1
@@ -32,5 +32,5 @@ pub returns : goal.returns
 returns c =
     let a = c.args in
     let l = c.loop-t in
-    let e : l.t ≡ a.complex.now.counts.triangles = omega (arith, c.loop-t-test.false, l.auto.t-end) in
-    l.invariant.1 ∙ writes-hinges (faces_of a.complex.now) a.sq_lengths.now l.t a.table.now (e ∙ sym (length-rows 3 a.complex.now.counts.triangles a.complex.now.triangles.now)) (omega (arith, c.requires.1))
+    let e : l.t ≡ a.built.now.complex.counts.triangles = omega (arith, c.loop-t-test.false, l.auto.t-end) in
+    l.invariant.1 ∙ writes-hinges (faces_of a.built.now.complex) a.sq_lengths.now l.t a.table.now (e ∙ sym (length-rows 3 a.built.now.complex.counts.triangles a.built.now.complex.triangles.now)) (omega (arith, c.requires.1))

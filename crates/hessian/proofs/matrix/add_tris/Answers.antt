@@ -19,7 +19,7 @@ use Rattle.hessian.proofs.matrix.add_tris.Goals.{then-marks-t, else-marks-t}
 
 pub loop-t-init : goal.loop-t-init
 unfolding marked_below keep upto gather scatter
-loop-t-init c = (refl, refl, scattered-unmarked before _ _ _)
+loop-t-init c = let a = c.args in (refl, refl, scattered-unmarked before (first_at (faces_of a.complex.now) a.sq_lengths.now a.matrix.now.free_edges.now) a.marks.now a.matrix.now)
 
 pub loop-t-preserved : goal.loop-t-preserved
 loop-t-preserved c =

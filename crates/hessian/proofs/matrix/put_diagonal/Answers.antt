@@ -1,8 +1,8 @@
 -- `hessian::matrix::put_diagonal` meets its contract. Assumes nothing.
-use Prim.Native.Nat.{◌+◌, ◌*◌}
+use Prim.Native.Nat.{ℕ, ◌+◌, ◌*◌}
 use mathlib.Core.Path.{◌≡◌, refl}
 use native.Mathlib.Omega.{arith}
-use lib.Ieee.{nan}
+use lib.Ieee.{Float, nan}
 use lib.ListN.{length, get_or}
 use Rattle.lists.specs.Lists.{gather, upto}
 use Rattle.lists.specs.Loops.{scatter}
@@ -29,4 +29,4 @@ returns c =
     let l = c.loop-i in
     let free = c.args.matrix.now.free_edges.now in
     let e : l.i ≡ length free = omega (arith, c.loop-i-test.false, l.auto.i-end) in
-    rw (← gather-ones (λ i. (i * length free + i, get_or c.args.diagonal.now (get_or free i 0) nan)) (upto (length free))) (rw e at l.invariant)
+    rw (← gather-ones {B = ℕ × Float} (λ i. (i * length free + i, get_or c.args.diagonal.now (get_or free i 0) nan)) (upto (length free))) (rw e at l.invariant)
