@@ -3,18 +3,25 @@ use mathlib.Core.List.{[], ◌∷◌}
 use mathlib.Core.Path.{◌≡◌, refl, sym, ap, ◌∙◌}
 use native.Mathlib.Numerals.{add-one}
 use native.Mathlib.Omega.{arith}
-use lib.ListN.{set, length-set}
+use lib.ListN.{length, set, length-set}
 use Rattle.lists.specs.Lists.{upto}
 use Rattle.lists.specs.Writes.{writes}
 use Rattle.lists.proofs.Rows.{length-rows}
 use Rattle.lists.proofs.Writes.{writes-append}
 use Rattle.hinges.specs.Hinges.{hinges, hinge_in, faces_of}
+use Rattle.calls.proofs.BuiltCalls.{measured}
 use Rattle.hinge_table.proofs.TableSteps.{writes-hinges}
 use Rattle.hinge_table.proofs.write_all.Goals as goal
 
 pub loop-t-init : goal.loop-t-init
 unfolding writes upto
 loop-t-init c = (refl, refl)
+
+pub overflow_cast-tri : goal.overflow_cast-tri
+overflow_cast-tri c = omega (arith, (measured c.args.built.now (length c.args.sq_lengths.now) c.requires.0).few, c.loop-t-test.true)
+
+pub hinge_at-requires : goal.hinge_at-requires
+hinge_at-requires c = (measured c.args.built.now (length c.args.sq_lengths.now) c.requires.0, c.loop-t-test.true)
 
 pub loop-t-preserved : goal.loop-t-preserved
 unfolding writes upto
