@@ -3,8 +3,6 @@
 #![tactic(auto)]
 
 ghost use Rattle.std.specs.Prelude.{◌≡◌};
-ghost use Rattle.complex.specs.Builder.{lists};
-ghost use Rattle.complex.specs.Lent.{lists_of};
 ghost use Rattle.boundary.specs.Counts.{counts_of_list, counts_list};
 
 use complex::{AdjacencyList, Complex, Counts};
@@ -43,10 +41,16 @@ pub fn complex_of<'a>(
     edge_to_pents_items: &'a [u32],
     edge_to_pents_starts: &'a [u32],
 ) -> Complex<'a>
-    ensures counts { result.counts ≡ counts_of_list counts.now }
-    ensures lists { lists_of result ≡ lists pents.now edges.now triangles.now tets.now
-        tri_to_pents_items.now tri_to_pents_starts.now edge_to_tris_items.now edge_to_tris_starts.now
-        edge_to_pents_items.now edge_to_pents_starts.now }
+    ensures { result ≡ record {
+      counts = counts_of_list counts.now;
+      pents = pents.entry;
+      edges = edges.entry;
+      triangles = triangles.entry;
+      tets = tets.entry;
+      tri_to_pents = record { items = tri_to_pents_items.entry; starts = tri_to_pents_starts.entry };
+      edge_to_tris = record { items = edge_to_tris_items.entry; starts = edge_to_tris_starts.entry };
+      edge_to_pents = record { items = edge_to_pents_items.entry; starts = edge_to_pents_starts.entry };
+    } }
 {
     Complex {
         counts: counts_of(*counts),

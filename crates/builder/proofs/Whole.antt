@@ -17,10 +17,9 @@ use Rattle.complex.specs.declared.numbering.Face.{Face}
 use Rattle.complex.specs.declared.numbering.Face.TheVariants.{Edge, Triangle, Tet}
 use Rattle.complex.specs.declared.numbering.FaceCounts.{FaceCounts}
 use Rattle.complex.specs.Complex.{width_of, count_of, faces, edges, triangles, tri_to_pents, edge_to_tris, edge_to_pents, numbers_of}
-use Rattle.complex.specs.declared.AdjacencyListMut.{AdjacencyListMut}
 use Rattle.complex.specs.declared.ListsMut.{ListsMut}
-use Rattle.complex.specs.Builder.{pentachorons, sorted_pents, counts_of, lists, written, over_all}
-use Rattle.complex.specs.Lent.{lists_in, IsGrouped}
+use Rattle.complex.specs.Builder.{Lists, pentachorons, sorted_pents, counts_of, lists, written, over_all}
+use Rattle.complex.specs.Lent.{lists_in, Grouped}
 use Rattle.complex.specs.Parts.{Faces, AllFaces, Numbered, AllNumbered, EdgesOf, Lent, Adjacent, Buildable}
 use Rattle.complex.proofs.SortedPents.{sorted-wide-all, length-sorted-all, sorted_back}
 use Rattle.complex.proofs.Meetings.{count-le}
@@ -99,12 +98,12 @@ module _ (given : List ℕ) (l : ListsMut) (ok : Buildable given (lists_in l)) w
   abbrev pub lent : Lent
   lent =
       record {
-        tri_to_pents = length l.tri_to_pents.items.now;
-        tri_to_pents_starts = length l.tri_to_pents.starts.now;
-        edge_to_tris = length l.edge_to_tris.items.now;
-        edge_to_tris_starts = length l.edge_to_tris.starts.now;
-        edge_to_pents = length l.edge_to_pents.items.now;
-        edge_to_pents_starts = length l.edge_to_pents.starts.now;
+        tri_to_pents = length l.tri_to_pents_items.now;
+        tri_to_pents_starts = length l.tri_to_pents_starts.now;
+        edge_to_tris = length l.edge_to_tris_items.now;
+        edge_to_tris_starts = length l.edge_to_tris_starts.now;
+        edge_to_pents = length l.edge_to_pents_items.now;
+        edge_to_pents_starts = length l.edge_to_pents_starts.now;
       }
 
   pub adjacent : (scratch : ℕ) → 245760 ≤ scratch
@@ -137,8 +136,9 @@ module _ (given : List ℕ) (l : ListsMut) (ok : Buildable given (lists_in l)) w
     unfolding counts_of
     counts-are = rw (count ∙ sym many, on_edges.count, on_triangles.count, on_tets.count) refl
 
-    module _ (pe pt te : List ℕ) (tp' et' ep' : AdjacencyListMut) (is-pe : pe ≡ numbers_of Edge (sorted_pents given)) (is-pt : pt ≡ numbers_of Triangle (sorted_pents given)) (room : 245760 ≤ length te)
-        (edges-of : EdgesOf pe pt te (length pt)) (tp : IsGrouped 10 nt pt l.tri_to_pents tp') (et : IsGrouped 3 ne (take (3 * nt) te) l.edge_to_tris et') (ep : IsGrouped 10 ne pe l.edge_to_pents ep') where
+    module _ (pe pt te : List ℕ) (b b' : ListsMut) (is-pe : pe ≡ numbers_of Edge (sorted_pents given)) (is-pt : pt ≡ numbers_of Triangle (sorted_pents given)) (room : 245760 ≤ length te)
+        (edges-of : EdgesOf pe pt te (length pt)) (left : Grouped pe pt te ne nt b b')
+        (is-b : lists_in b ≡ lists p' e' t' k' l.tri_to_pents_items.now l.tri_to_pents_starts.now l.edge_to_tris_items.now l.edge_to_tris_starts.now l.edge_to_pents_items.now l.edge_to_pents_starts.now) where
       tp-groups : groups 10 nt pt ≡ tri_to_pents (sorted_pents given)
       tp-groups = rw (on_triangles.count, is-pt) (tri_to_pents_lem (sorted_pents given) (sorted-wide-all given) sorted-rising)
 
@@ -151,20 +151,20 @@ module _ (given : List ℕ) (l : ListsMut) (ok : Buildable given (lists_in l)) w
           (edge-to-tris-stored (sorted_pents given) (sorted-wide-all given) sorted-rising te (omega (arith, few-faces Triangle refl, ok.few))
           (rw (is-pe, is-pt) at edges-of))
 
-      pub lists-are : lists p' e' t' k' tp'.items.now tp'.starts.now et'.items.now et'.starts.now ep'.items.now ep'.starts.now ≡ over_all (written (sorted_pents given)) (lists_in l)
+      pub lists-are : lists_in b' ≡ over_all (written (sorted_pents given)) (lists_in l)
       unfolding written over_all
       lists-are =
           rw (
-            sorted,
-            on_edges.rows,
-            on_triangles.rows,
-            on_tets.rows,
-            tp.items ∙ ap (λ (g : List (List ℕ)). over (flat g) l.tri_to_pents.items.now) tp-groups,
-            tp.starts ∙ ap (λ (g : List (List ℕ)). over (starts g) l.tri_to_pents.starts.now) tp-groups,
-            et.items ∙ ap (λ (g : List (List ℕ)). over (flat g) l.edge_to_tris.items.now) et-groups,
-            et.starts ∙ ap (λ (g : List (List ℕ)). over (starts g) l.edge_to_tris.starts.now) et-groups,
-            ep.items ∙ ap (λ (g : List (List ℕ)). over (flat g) l.edge_to_pents.items.now) ep-groups,
-            ep.starts ∙ ap (λ (g : List (List ℕ)). over (starts g) l.edge_to_pents.starts.now) ep-groups,
+            left.pents ∙ ap (λ (x : Lists). x.pents) is-b ∙ sorted,
+            left.edges ∙ ap (λ (x : Lists). x.edges) is-b ∙ on_edges.rows,
+            left.triangles ∙ ap (λ (x : Lists). x.triangles) is-b ∙ on_triangles.rows,
+            left.tets ∙ ap (λ (x : Lists). x.tets) is-b ∙ on_tets.rows,
+            left.tri_to_pents.items_after ∙ ap (over (flat (groups 10 nt pt))) (ap (λ (x : Lists). x.tri_to_pents) is-b) ∙ ap (λ (g : List (List ℕ)). over (flat g) l.tri_to_pents_items.now) tp-groups,
+            left.tri_to_pents.starts_after ∙ ap (over (starts (groups 10 nt pt))) (ap (λ (x : Lists). x.tri_to_pents_starts) is-b) ∙ ap (λ (g : List (List ℕ)). over (starts g) l.tri_to_pents_starts.now) tp-groups,
+            left.edge_to_tris.items_after ∙ ap (over (flat (groups 3 ne (take (3 * nt) te)))) (ap (λ (x : Lists). x.edge_to_tris) is-b) ∙ ap (λ (g : List (List ℕ)). over (flat g) l.edge_to_tris_items.now) et-groups,
+            left.edge_to_tris.starts_after ∙ ap (over (starts (groups 3 ne (take (3 * nt) te)))) (ap (λ (x : Lists). x.edge_to_tris_starts) is-b) ∙ ap (λ (g : List (List ℕ)). over (starts g) l.edge_to_tris_starts.now) et-groups,
+            left.edge_to_pents.items_after ∙ ap (over (flat (groups 10 ne pe))) (ap (λ (x : Lists). x.edge_to_pents) is-b) ∙ ap (λ (g : List (List ℕ)). over (flat g) l.edge_to_pents_items.now) ep-groups,
+            left.edge_to_pents.starts_after ∙ ap (over (starts (groups 10 ne pe))) (ap (λ (x : Lists). x.edge_to_pents_starts) is-b) ∙ ap (λ (g : List (List ℕ)). over (starts g) l.edge_to_pents_starts.now) ep-groups,
           )
           refl
 

@@ -40,9 +40,7 @@ pub fn build(n_vertices: usize, given: &[u32], lists: &mut ListsMut<'_>) -> Coun
         faces.edges,
         faces.triangles,
         &mut work,
-        &mut lists.tri_to_pents,
-        &mut lists.edge_to_tris,
-        &mut lists.edge_to_pents,
+        lists,
     );
     Counts {
         vertices: n_vertices,

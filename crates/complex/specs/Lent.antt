@@ -1,9 +1,8 @@
 -- A lent complex seen as lists: what contracts say of the structs that hold its references. Definitions only.
-use Rattle.std.specs.Prelude.{ℕ, List, ◌≡◌, true}
+use Rattle.std.specs.Prelude.{ℕ, ◌*◌, List, ◌≡◌, true, take}
 use Rattle.lists.specs.Rows.{flat, starts, over}
 use Rattle.lists.specs.Groups.{groups}
 use Rattle.complex.specs.declared.AdjacencyList.{AdjacencyList}
-use Rattle.complex.specs.declared.AdjacencyListMut.{AdjacencyListMut}
 use Rattle.complex.specs.declared.Complex.{Complex}
 use Rattle.complex.specs.declared.ListsMut.{ListsMut}
 use Rattle.complex.specs.Builder.{Lists, lists}
@@ -38,13 +37,8 @@ IsHolding rs keys a = holds rs keys a.items.now a.starts.now ≡ true
 -- the ten lists, as they are now
 abbrev pub lists_in : ListsMut → Lists
 lists_in l =
-    lists l.pents.now l.edges.now l.triangles.now l.tets.now l.tri_to_pents.items.now l.tri_to_pents.starts.now
-    l.edge_to_tris.items.now l.edge_to_tris.starts.now l.edge_to_pents.items.now l.edge_to_pents.starts.now
-
--- an adjacency list is written to where it was lent
-pub record SameAdjacencyList (a b : AdjacencyListMut) : Type 0 where
-  pub items : b.items.ghost_name ≡ a.items.ghost_name
-  pub starts : b.starts.ghost_name ≡ a.starts.ghost_name
+    lists l.pents.now l.edges.now l.triangles.now l.tets.now l.tri_to_pents_items.now l.tri_to_pents_starts.now
+    l.edge_to_tris_items.now l.edge_to_tris_starts.now l.edge_to_pents_items.now l.edge_to_pents_starts.now
 
 -- each list is written to where it was lent
 pub record SameLists (a b : ListsMut) : Type 0 where
@@ -52,11 +46,25 @@ pub record SameLists (a b : ListsMut) : Type 0 where
   pub edges : b.edges.ghost_name ≡ a.edges.ghost_name
   pub triangles : b.triangles.ghost_name ≡ a.triangles.ghost_name
   pub tets : b.tets.ghost_name ≡ a.tets.ghost_name
-  pub tri_to_pents : SameAdjacencyList a.tri_to_pents b.tri_to_pents
-  pub edge_to_tris : SameAdjacencyList a.edge_to_tris b.edge_to_tris
-  pub edge_to_pents : SameAdjacencyList a.edge_to_pents b.edge_to_pents
+  pub tri_to_pents_items : b.tri_to_pents_items.ghost_name ≡ a.tri_to_pents_items.ghost_name
+  pub tri_to_pents_starts : b.tri_to_pents_starts.ghost_name ≡ a.tri_to_pents_starts.ghost_name
+  pub edge_to_tris_items : b.edge_to_tris_items.ghost_name ≡ a.edge_to_tris_items.ghost_name
+  pub edge_to_tris_starts : b.edge_to_tris_starts.ghost_name ≡ a.edge_to_tris_starts.ghost_name
+  pub edge_to_pents_items : b.edge_to_pents_items.ghost_name ≡ a.edge_to_pents_items.ghost_name
+  pub edge_to_pents_starts : b.edge_to_pents_starts.ghost_name ≡ a.edge_to_pents_starts.ghost_name
 
--- an adjacency list has, over its beginning, the numbers of the rows of w numbers of a flat list in which each number below m stands
-pub record IsGrouped (w m : ℕ) (ns : List ℕ) (a b : AdjacencyListMut) : Type 0 where
-  pub items : b.items.now ≡ over (flat (groups w m ns)) a.items.now
-  pub starts : b.starts.now ≡ over (starts (groups w m ns)) a.starts.now
+-- an adjacency list has, over its beginnings, the numbers of the rows of w numbers of a flat list in which each number below m stands
+pub record IsGrouped (w m : ℕ) (ns items items' ss ss' : List ℕ) : Type 0 where
+  pub items_after : items' ≡ over (flat (groups w m ns)) items
+  pub starts_after : ss' ≡ over (starts (groups w m ns)) ss
+
+-- the three adjacency lists are grouped so: by the edge numbers pe and triangle numbers pt of pentachorons, and by te, which has the edges of
+-- T triangles, E edges in all; the lists of faces are kept
+pub record Grouped (pe pt te : List ℕ) (E T : ℕ) (a b : ListsMut) : Type 0 where
+  pub pents : b.pents.now ≡ a.pents.now
+  pub edges : b.edges.now ≡ a.edges.now
+  pub triangles : b.triangles.now ≡ a.triangles.now
+  pub tets : b.tets.now ≡ a.tets.now
+  pub tri_to_pents : IsGrouped 10 T pt a.tri_to_pents_items.now b.tri_to_pents_items.now a.tri_to_pents_starts.now b.tri_to_pents_starts.now
+  pub edge_to_tris : IsGrouped 3 E (take (3 * T) te) a.edge_to_tris_items.now b.edge_to_tris_items.now a.edge_to_tris_starts.now b.edge_to_tris_starts.now
+  pub edge_to_pents : IsGrouped 10 E pe a.edge_to_pents_items.now b.edge_to_pents_items.now a.edge_to_pents_starts.now b.edge_to_pents_starts.now

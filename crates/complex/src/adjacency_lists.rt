@@ -1,9 +1,9 @@
 // The adjacency lists, from the numbers of the edges and triangles of each pentachoron.
 ghost use Rattle.std.specs.Prelude.{◌≡◌, ◌*◌, ◌%◌, ◌<◌, length, take};
 ghost use Rattle.complex.specs.Parts.{edge_at, Consistent, EdgesOf, Adjacent};
-ghost use Rattle.complex.specs.Lent.{SameAdjacencyList, IsGrouped};
+ghost use Rattle.complex.specs.Lent.{SameLists, Grouped};
 
-use crate::AdjacencyListMut;
+use crate::ListsMut;
 use lists::group;
 
 // Where each triangle's three edges stand among the ten edges of its pentachoron.
@@ -50,45 +50,29 @@ pub fn adjacency(
     n_edges: usize,
     n_tris: usize,
     tri_edges: &mut [u32],
-    tri_to_pents: &mut AdjacencyListMut<'_>,
-    edge_to_tris: &mut AdjacencyListMut<'_>,
-    edge_to_pents: &mut AdjacencyListMut<'_>,
+    lists: &mut ListsMut<'_>,
 )
     requires { Adjacent pent_edges.now pent_tris.now n_edges n_tris (length tri_edges.old) (record {
-      tri_to_pents = length tri_to_pents.old.items.now;
-      tri_to_pents_starts = length tri_to_pents.old.starts.now;
-      edge_to_tris = length edge_to_tris.old.items.now;
-      edge_to_tris_starts = length edge_to_tris.old.starts.now;
-      edge_to_pents = length edge_to_pents.old.items.now;
-      edge_to_pents_starts = length edge_to_pents.old.starts.now;
+      tri_to_pents = length lists.old.tri_to_pents_items.now;
+      tri_to_pents_starts = length lists.old.tri_to_pents_starts.now;
+      edge_to_tris = length lists.old.edge_to_tris_items.now;
+      edge_to_tris_starts = length lists.old.edge_to_tris_starts.now;
+      edge_to_pents = length lists.old.edge_to_pents_items.now;
+      edge_to_pents_starts = length lists.old.edge_to_pents_starts.now;
     }) }
-    ensures same { SameAdjacencyList tri_to_pents.old tri_to_pents.new × SameAdjacencyList edge_to_tris.old edge_to_tris.new
-        × SameAdjacencyList edge_to_pents.old edge_to_pents.new }
+    ensures same { SameLists lists.old lists.new }
     ensures edges { EdgesOf pent_edges.now pent_tris.now tri_edges.new (length pent_tris.now) }
-    ensures lists_after { IsGrouped 10 n_tris pent_tris.now tri_to_pents.old tri_to_pents.new
-        × IsGrouped 3 n_edges (take (3 * n_tris) tri_edges.new) edge_to_tris.old edge_to_tris.new
-        × IsGrouped 10 n_edges pent_edges.now edge_to_pents.old edge_to_pents.new }
+    ensures lists_after { Grouped pent_edges.now pent_tris.now tri_edges.new n_edges n_tris lists.old lists.new }
 {
+    // Items and starts are lent on before each call: the check reads no field of `lists` while another is lent.
     edges_of_triangles(pent_edges, pent_tris, tri_edges);
-    group(
-        pent_tris,
-        10,
-        n_tris,
-        tri_to_pents.items,
-        tri_to_pents.starts,
-    );
-    group(
-        &tri_edges[..3 * n_tris],
-        3,
-        n_edges,
-        edge_to_tris.items,
-        edge_to_tris.starts,
-    );
-    group(
-        pent_edges,
-        10,
-        n_edges,
-        edge_to_pents.items,
-        edge_to_pents.starts,
-    );
+    let items = &mut *lists.tri_to_pents_items;
+    let starts = &mut *lists.tri_to_pents_starts;
+    group(pent_tris, 10, n_tris, items, starts);
+    let items = &mut *lists.edge_to_tris_items;
+    let starts = &mut *lists.edge_to_tris_starts;
+    group(&tri_edges[..3 * n_tris], 3, n_edges, items, starts);
+    let items = &mut *lists.edge_to_pents_items;
+    let starts = &mut *lists.edge_to_pents_starts;
+    group(pent_edges, 10, n_edges, items, starts);
 }

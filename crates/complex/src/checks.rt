@@ -33,12 +33,12 @@ impl ListsMut<'_> {
             edges: self.edges.len(),
             triangles: self.triangles.len(),
             tets: self.tets.len(),
-            tri_to_pents_items: self.tri_to_pents.items.len(),
-            tri_to_pents_starts: self.tri_to_pents.starts.len(),
-            edge_to_tris_items: self.edge_to_tris.items.len(),
-            edge_to_tris_starts: self.edge_to_tris.starts.len(),
-            edge_to_pents_items: self.edge_to_pents.items.len(),
-            edge_to_pents_starts: self.edge_to_pents.starts.len(),
+            tri_to_pents_items: self.tri_to_pents_items.len(),
+            tri_to_pents_starts: self.tri_to_pents_starts.len(),
+            edge_to_tris_items: self.edge_to_tris_items.len(),
+            edge_to_tris_starts: self.edge_to_tris_starts.len(),
+            edge_to_pents_items: self.edge_to_pents_items.len(),
+            edge_to_pents_starts: self.edge_to_pents_starts.len(),
         }
     }
 }

@@ -50,21 +50,18 @@ pub struct Incidence<'a> {
     pub pent_tris: &'a [u32],
 }
 
-// An adjacency list that is lent to be written.
-#[derive(Drop)]
-pub struct AdjacencyListMut<'a> {
-    pub items: &'a mut [u32],
-    pub starts: &'a mut [u32],
-}
-
-// The ten lists of a complex, lent to be written.
+// The ten lists of a complex, lent to be written. The adjacency lists are no structs in it, since the borrow checker does not cover
+// structs in a struct that hold parameters of ten lifetimes, as the lists that C lends.
 #[derive(Drop)]
 pub struct ListsMut<'a> {
     pub pents: &'a mut [u32],
     pub edges: &'a mut [u32],
     pub triangles: &'a mut [u32],
     pub tets: &'a mut [u32],
-    pub tri_to_pents: AdjacencyListMut<'a>,
-    pub edge_to_tris: AdjacencyListMut<'a>,
-    pub edge_to_pents: AdjacencyListMut<'a>,
+    pub tri_to_pents_items: &'a mut [u32],
+    pub tri_to_pents_starts: &'a mut [u32],
+    pub edge_to_tris_items: &'a mut [u32],
+    pub edge_to_tris_starts: &'a mut [u32],
+    pub edge_to_pents_items: &'a mut [u32],
+    pub edge_to_pents_starts: &'a mut [u32],
 }

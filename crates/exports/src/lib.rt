@@ -21,7 +21,8 @@ ghost use Rattle.lattice_edges.specs.Edges.{types_of, lengths_of};
 ghost use Rattle.geometry.specs.CayleyMenger.{cm, cofactors};
 ghost use Rattle.geometry.specs.Answer.{cofactor_answer};
 ghost use Rattle.lorentzian.specs.Triangle.{area_sq, area_sq_grad, grad_outcome, grad_after};
-ghost use Rattle.lorentzian.specs.Dihedral.{kind_number_of, value_of, compute_dihedral, dihedral_answer, refusal_of, value_or, kind_or};
+ghost use Rattle.lorentzian.specs.Dihedral as Dihedral;
+ghost use Rattle.lorentzian.specs.Dihedral.{kind_number_of, value_of, compute_dihedral, dihedral_answer, kind_or};
 ghost use Rattle.jacobian.specs.Jacobian.{all_dihedrals, jacobian};
 ghost use Rattle.boundary.specs.Counts.{counts_of_list};
 ghost use Rattle.exports.specs.Complexes.{Built, Checked};
@@ -30,12 +31,12 @@ ghost use Rattle.exports.specs.Lattices.{lattice_of, Listed, Filled};
 use boundary::{complex_of, counts_list, counts_of};
 use builder::from_pentachorons;
 use comparison::check_built;
-use complex::{AdjacencyListMut, ListsMut};
+use complex::ListsMut;
 use foliation::{Lattice, foliated_hypercubic};
 use geometry::cofactor_6x6;
 use jacobian::all_lorentzian_dihedrals;
 use lattice_edges::{edge_types, flat_minkowski_sq_lengths};
-use lorentzian::lorentzian_dihedral;
+use lorentzian::{kind_in, lorentzian_dihedral, value_in};
 use refusals::{number_in, place_in};
 
 // ---- floats, the root and fdlibm
@@ -161,7 +162,7 @@ pub extern "C" fn cjapthumi_tri_area_sq_grad_in_pent(
     ensures value { result ≡ number_in (grad_outcome tri.now) }
     ensures grad_after { grad.new ≡ grad_after s.now tri.now grad.old }
 {
-    lorentzian::tri_area_sq_grad_in_pent(s, *tri, grad).number()
+    number_in(&lorentzian::tri_area_sq_grad_in_pent(s, *tri, grad))
 }
 
 // The kind is 0 for Spacelike and 1 for Timelike.
@@ -183,14 +184,14 @@ pub extern "C" fn cjapthumi_lorentzian_dihedral(
     value: &mut f64,
     kind: &mut u8,
 ) -> u32
-    ensures { (result ≡ refusal_of (dihedral_answer s.now l m))
-        × (value.new ≡ value_or (dihedral_answer s.now l m) value.old)
+    ensures { (result ≡ number_in (dihedral_answer s.now l m))
+        × (value.new ≡ Dihedral.value_or (dihedral_answer s.now l m) value.old)
         × (kind.new ≡ kind_or (dihedral_answer s.now l m) kind.old) }
 {
     let dihedral = lorentzian_dihedral(s, l, m);
-    *value = dihedral.value_or(*value);
-    *kind = dihedral.kind_or(*kind);
-    dihedral.number()
+    *value = value_in(&dihedral, *value);
+    *kind = kind_in(&dihedral, *kind);
+    number_in(&dihedral)
 }
 
 #[unsafe(no_mangle)]
@@ -254,18 +255,12 @@ pub extern "C" fn cjapthumi_from_pentachorons(
         edges,
         triangles,
         tets,
-        tri_to_pents: AdjacencyListMut {
-            items: tri_to_pents_items,
-            starts: tri_to_pents_starts,
-        },
-        edge_to_tris: AdjacencyListMut {
-            items: edge_to_tris_items,
-            starts: edge_to_tris_starts,
-        },
-        edge_to_pents: AdjacencyListMut {
-            items: edge_to_pents_items,
-            starts: edge_to_pents_starts,
-        },
+        tri_to_pents_items,
+        tri_to_pents_starts,
+        edge_to_tris_items,
+        edge_to_tris_starts,
+        edge_to_pents_items,
+        edge_to_pents_starts,
     };
     let built = from_pentachorons(n_vertices, given, &mut lists);
     *counts = counts_list(built.unwrap_or(counts_of(*counts)));
@@ -307,11 +302,7 @@ pub extern "C" fn cjapthumi_check_built(
         edge_to_pents_items,
         edge_to_pents_starts,
     );
-    let outcome = check_built(
-        &complex,
-        pent_edges,
-        pent_tris,
-    );
+    let outcome = check_built(&complex, pent_edges, pent_tris);
     number_in(&outcome)
 }
 
@@ -368,11 +359,7 @@ pub extern "C" fn cjapthumi_edge_types(
         edge_to_pents_items,
         edge_to_pents_starts,
     );
-    let outcome = edge_types(
-        lattice_of(n_t, n_s),
-        &complex,
-        types,
-    );
+    let outcome = edge_types(lattice_of(n_t, n_s), &complex, types);
     number_in(&outcome)
 }
 

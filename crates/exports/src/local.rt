@@ -52,14 +52,7 @@ pub extern "C" fn cjapthumi_local_deficit_angles<'a>(
         edge_to_pents_items,
         edge_to_pents_starts,
     );
-    let answer = local_deficit_angles(
-        &complex,
-        sq_lengths,
-        free_edges,
-        tris,
-        deficits,
-        kinds,
-    );
+    let answer = local_deficit_angles(&complex, sq_lengths, free_edges, tris, deficits, kinds);
     *count = answer.unwrap_or(*count);
     number_in(&answer)
 }
@@ -103,12 +96,7 @@ pub extern "C" fn cjapthumi_local_lorentzian_regge_action_grad<'a>(
         edge_to_pents_items,
         edge_to_pents_starts,
     );
-    let answer = local_lorentzian_regge_action_grad(
-        &complex,
-        sq_lengths,
-        free_edges,
-        grad,
-    );
+    let answer = local_lorentzian_regge_action_grad(&complex, sq_lengths, free_edges, grad);
     number_in(&answer)
 }
 
@@ -152,12 +140,6 @@ pub extern "C" fn cjapthumi_local_lorentzian_regge_hessian<'a>(
         edge_to_pents_items,
         edge_to_pents_starts,
     );
-    let answer = local_lorentzian_regge_hessian(
-        &complex,
-        sq_lengths,
-        free_edges,
-        fd_eps,
-        hessian,
-    );
+    let answer = local_lorentzian_regge_hessian(&complex, sq_lengths, free_edges, fd_eps, hessian);
     number_in(&answer)
 }

@@ -50,12 +50,7 @@ pub extern "C" fn cjapthumi_lorentzian_deficit_angles<'a>(
         edge_to_pents_items,
         edge_to_pents_starts,
     );
-    let answer = lorentzian_deficit_angles(
-        &complex,
-        sq_lengths,
-        deficits,
-        kinds,
-    );
+    let answer = lorentzian_deficit_angles(&complex, sq_lengths, deficits, kinds);
     number_in(&answer)
 }
 
@@ -95,11 +90,7 @@ pub extern "C" fn cjapthumi_lorentzian_deficit_angle<'a>(
         edge_to_pents_items,
         edge_to_pents_starts,
     );
-    let answer = lorentzian_deficit_angle(
-        &complex,
-        sq_lengths,
-        TriangleNumber(tri),
-    );
+    let answer = lorentzian_deficit_angle(&complex, sq_lengths, TriangleNumber(tri));
     if let Ok(hinge) = answer {
         *deficit = hinge.deficit;
         *kind = hinge.kind.number();
@@ -141,10 +132,7 @@ pub extern "C" fn cjapthumi_lorentzian_regge_action<'a>(
         edge_to_pents_items,
         edge_to_pents_starts,
     );
-    let answer = lorentzian_regge_action(
-        &complex,
-        sq_lengths,
-    );
+    let answer = lorentzian_regge_action(&complex, sq_lengths);
     *action = answer.unwrap_or(*action);
     number_in(&answer)
 }
@@ -183,11 +171,7 @@ pub extern "C" fn cjapthumi_lorentzian_regge_action_grad<'a>(
         edge_to_pents_items,
         edge_to_pents_starts,
     );
-    let answer = lorentzian_regge_action_grad(
-        &complex,
-        sq_lengths,
-        grad,
-    );
+    let answer = lorentzian_regge_action_grad(&complex, sq_lengths, grad);
     number_in(&answer)
 }
 

@@ -6,8 +6,8 @@ ghost use Rattle.boundary.specs.Retouching.{TableRetouch};
 
 use boundary::complex_of;
 use incidence::EdgeNumber;
-use retouch::retouch;
 use refusals::number_in;
+use retouch::retouch;
 
 // Stores `sq_length` at `edge` and brings the deficits and kinds up to date.
 #[unsafe(no_mangle)]

@@ -69,14 +69,7 @@ pub extern "C" fn cjapthumi_local_deficit_angles_built<'a>(
             pent_tris,
         },
     };
-    let answer = local_deficit_angles_built(
-        &built,
-        sq_lengths,
-        free_edges,
-        tris,
-        deficits,
-        kinds,
-    );
+    let answer = local_deficit_angles_built(&built, sq_lengths, free_edges, tris, deficits, kinds);
     *count = answer.unwrap_or(*count);
     number_in(&answer)
 }
@@ -134,12 +127,7 @@ pub extern "C" fn cjapthumi_local_lorentzian_regge_action_grad_built<'a>(
             pent_tris,
         },
     };
-    let answer = local_lorentzian_regge_action_grad_built(
-        &built,
-        sq_lengths,
-        free_edges,
-        grad,
-    );
+    let answer = local_lorentzian_regge_action_grad_built(&built, sq_lengths, free_edges, grad);
     number_in(&answer)
 }
 
@@ -198,11 +186,7 @@ pub extern "C" fn cjapthumi_local_lorentzian_regge_hessian_built<'a>(
         },
     };
     let answer = local_lorentzian_regge_hessian_built(
-        &built,
-        sq_lengths,
-        free_edges,
-        fd_eps,
-        hessian,
+        &built, sq_lengths, free_edges, fd_eps, hessian,
     );
     number_in(&answer)
 }

@@ -63,12 +63,7 @@ pub extern "C" fn cjapthumi_lorentzian_deficit_angles_built<'a>(
             pent_tris,
         },
     };
-    let answer = lorentzian_deficit_angles_built(
-        &built,
-        sq_lengths,
-        deficits,
-        kinds,
-    );
+    let answer = lorentzian_deficit_angles_built(&built, sq_lengths, deficits, kinds);
     number_in(&answer)
 }
 
@@ -122,11 +117,7 @@ pub extern "C" fn cjapthumi_lorentzian_deficit_angle_built<'a>(
             pent_tris,
         },
     };
-    let answer = lorentzian_deficit_angle_built(
-        &built,
-        sq_lengths,
-        TriangleNumber(tri),
-    );
+    let answer = lorentzian_deficit_angle_built(&built, sq_lengths, TriangleNumber(tri));
     if let Ok(hinge) = answer {
         *deficit = hinge.deficit;
         *kind = hinge.kind.number();
@@ -182,10 +173,7 @@ pub extern "C" fn cjapthumi_lorentzian_regge_action_built<'a>(
             pent_tris,
         },
     };
-    let answer = lorentzian_regge_action_built(
-        &built,
-        sq_lengths,
-    );
+    let answer = lorentzian_regge_action_built(&built, sq_lengths);
     *action = answer.unwrap_or(*action);
     number_in(&answer)
 }
@@ -238,10 +226,6 @@ pub extern "C" fn cjapthumi_lorentzian_regge_action_grad_built<'a>(
             pent_tris,
         },
     };
-    let answer = lorentzian_regge_action_grad_built(
-        &built,
-        sq_lengths,
-        grad,
-    );
+    let answer = lorentzian_regge_action_grad_built(&built, sq_lengths, grad);
     number_in(&answer)
 }

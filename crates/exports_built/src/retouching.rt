@@ -9,8 +9,8 @@ use boundary::complex_of;
 use calls::BuiltComplex;
 use complex::Incidence;
 use incidence::EdgeNumber;
-use retouch::retouch_built;
 use refusals::number_in;
+use retouch::retouch_built;
 
 // Stores `sq_length` at `edge` and brings the deficits and kinds up to date.
 #[unsafe(no_mangle)]

@@ -1,2 +1,3 @@
 -- Theorems on fdlibm's functions.
 pub mod Values
+pub mod Order

@@ -35,6 +35,7 @@ const qS3: f64 = -6.88283971605453293030e-01;
 const qS4: f64 = 7.70381505559019352791e-02;
 
 // The C's r = p/q at z.
+#[tactic(auto, unfolding(crate::specs::Acos::ratio_of))]
 fn ratio(z: f64) -> f64
     ensures { result ≡ ratio_of z }
 {
@@ -44,6 +45,7 @@ fn ratio(z: f64) -> f64
 }
 
 // Where x < -0.5.
+#[tactic(auto, unfolding(crate::specs::Acos::acos_below))]
 fn acos_below(x: f64) -> f64
     ensures { result ≡ acos_below x }
 {
@@ -55,6 +57,7 @@ fn acos_below(x: f64) -> f64
 }
 
 // Where x > 0.5.
+#[tactic(auto, unfolding(crate::specs::Acos::acos_above))]
 fn acos_above(x: f64) -> f64
     ensures { result ≡ acos_above x }
 {
@@ -68,6 +71,7 @@ fn acos_above(x: f64) -> f64
 }
 
 // The angle whose cosine is x.
+#[tactic(auto, unfolding(crate::specs::Acos::acos_of))]
 pub fn acos(x: f64) -> f64
     ensures { result ≡ acos_of x }
 {

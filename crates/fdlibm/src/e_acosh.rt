@@ -13,6 +13,7 @@ const one: f64 = 1.0;
 const ln2: f64 = 6.93147180559945286227e-01;
 
 // The inverse of the hyperbolic cosine at x.
+#[tactic(auto, unfolding(crate::specs::Acosh::acosh_of))]
 pub fn acosh(x: f64) -> f64
     ensures { result ≡ acosh_of x }
 {

@@ -28,6 +28,7 @@ const Lg7: f64 = 1.479819860511658591e-01;
 const zero: f64 = 0.0;
 
 // Where |f| < 2**-20.
+#[tactic(auto, unfolding(crate::specs::Log::log_near))]
 fn log_near(k: u32, f: f64) -> f64
     ensures { result ≡ log_near k f }
 {
@@ -46,6 +47,7 @@ fn log_near(k: u32, f: f64) -> f64
 }
 
 // From `s = f/(2.0+f)` on.
+#[tactic(auto, unfolding(crate::specs::Log::log_far))]
 fn log_far(k: u32, hx: u32, f: f64) -> f64
     ensures { result ≡ log_far k hx f }
 {
@@ -70,6 +72,7 @@ fn log_far(k: u32, hx: u32, f: f64) -> f64
 }
 
 // From `if (hx >= 0x7ff00000)` on, where C's k is 0 or -54. The argument is C's k + 54, which is below 64.
+#[tactic(auto, unfolding(crate::specs::Log::log_from))]
 fn log_from(k: u32, x: f64) -> f64
     requires { k < 64 }
     ensures { result ≡ log_from k x }
@@ -89,6 +92,7 @@ fn log_from(k: u32, x: f64) -> f64
 }
 
 // The logarithm of x.
+#[tactic(auto, unfolding(crate::specs::Log::log_of))]
 pub fn log(x: f64) -> f64
     ensures { result ≡ log_of x }
 {

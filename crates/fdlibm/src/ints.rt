@@ -6,33 +6,27 @@ ghost use Rattle.fdlibm.specs.Ints.{◌<ˢ◌, ◌≤ˢ◌, words_are, dk};
 pub fn int_lt(a: u32, b: u32) -> bool
     ensures { result ≡ (a <ˢ b) }
 {
-    std::num::wrapping_add_u32(a, 0x8000_0000) < std::num::wrapping_add_u32(b, 0x8000_0000)
+    a.cast_signed() < b.cast_signed()
 }
 
 // C's a <= b.
 pub fn int_le(a: u32, b: u32) -> bool
     ensures { result ≡ (a ≤ˢ b) }
 {
-    std::num::wrapping_add_u32(a, 0x8000_0000) <= std::num::wrapping_add_u32(b, 0x8000_0000)
+    a.cast_signed() <= b.cast_signed()
 }
 
 // C's ((high-h)|low)==0.
+#[tactic(auto, unfolding(crate::specs::Ints::words_are))]
 pub fn words_are(high: u32, low: u32, h: u32) -> bool
     ensures { result ≡ words_are high low h }
 {
-    if high == h {
-        return low == 0;
-    }
-    false
+    high == h && low == 0
 }
 
 // C's (double)k, for the k that is held as k + 1077.
 pub fn dk_of(k: u32) -> f64
     ensures { result ≡ dk k }
 {
-    if k >= 1077 {
-        (k - 1077) as f64
-    } else {
-        -((1077 - k) as f64)
-    }
+    (i64::from(k) - 1077) as f64
 }

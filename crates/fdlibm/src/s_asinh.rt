@@ -15,6 +15,7 @@ const ln2: f64 = 6.93147180559945286227e-01;
 const huge: f64 = 1.00000000000000000000e+300;
 
 // The C's w, the size of the result.
+#[tactic(auto, unfolding(crate::specs::Asinh::asinh_size))]
 fn asinh_size(x: f64) -> f64
     ensures { result ≡ asinh_size x }
 {
@@ -31,6 +32,7 @@ fn asinh_size(x: f64) -> f64
 }
 
 // The inverse of the hyperbolic sine at x.
+#[tactic(auto, unfolding(crate::specs::Asinh::asinh_of))]
 pub fn asinh(x: f64) -> f64
     ensures { result ≡ asinh_of x }
 {

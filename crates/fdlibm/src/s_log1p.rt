@@ -5,6 +5,7 @@ ghost use Rattle.fdlibm.specs.Log1p.{log1p_tail, log1p_scaled, log1p_sum, log1p_
 use crate::ints::{dk_of, int_le, int_lt};
 use floats::{high_word, low_word, of_words};
 
+// The constants of e_log.c again: each C file has its own, and Lp1 .. Lp7 are its names for Lg1 .. Lg7.
 const ln2_hi: f64 = 6.93147180369123816490e-01;
 
 const ln2_lo: f64 = 1.90821492927058770002e-10;
@@ -28,6 +29,7 @@ const Lp7: f64 = 1.479819860511658591e-01;
 const zero: f64 = 0.0;
 
 // From `hfsq=0.5*f*f` on.
+#[tactic(auto, unfolding(crate::specs::Log1p::log1p_tail))]
 fn log1p_tail(k: u32, hu: u32, f: f64, c: f64) -> f64
     ensures { result ≡ log1p_tail k hu f c }
 {
@@ -56,6 +58,7 @@ fn log1p_tail(k: u32, hu: u32, f: f64, c: f64) -> f64
 }
 
 // From `hu &= 0x000fffff` on.
+#[tactic(auto, unfolding(crate::specs::Log1p::log1p_scaled))]
 fn log1p_scaled(u: f64, c: f64) -> f64
     ensures { result ≡ log1p_scaled u c }
 {
@@ -75,6 +78,7 @@ fn log1p_scaled(u: f64, c: f64) -> f64
 }
 
 // Where hx < 0x43400000: u = 1+x, with its correction term.
+#[tactic(auto, unfolding(crate::specs::Log1p::log1p_sum))]
 fn log1p_sum(x: f64) -> f64
     ensures { result ≡ log1p_sum x }
 {
@@ -86,6 +90,7 @@ fn log1p_sum(x: f64) -> f64
 }
 
 // From `if (hx >= 0x7ff00000)` on, where k is not 0.
+#[tactic(auto, unfolding(crate::specs::Log1p::log1p_wide))]
 fn log1p_wide(x: f64) -> f64
     ensures { result ≡ log1p_wide x }
 {
@@ -100,6 +105,7 @@ fn log1p_wide(x: f64) -> f64
 }
 
 // The logarithm of 1 + x.
+#[tactic(auto, unfolding(crate::specs::Log1p::log1p_of))]
 pub fn log1p(x: f64) -> f64
     ensures { result ≡ log1p_of x }
 {

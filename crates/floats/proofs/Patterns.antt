@@ -6,9 +6,10 @@ use native.Mathlib.Nat.{mod-eq_of_lt}
 use native.Mathlib.Omega.{arith}
 use lib.Dec.{T, leb, eqb, nleb→lt}
 use lib.IntN.{ℤ}
-use lib.Ieee.{Float, nan, inf, fin, binary64, up, down, odd, fits, is_nan, ne, of_fields, of_bits, to_bits, nan_bits, ones, hid, top}
+use lib.Ieee.{Float, nan, inf, fin, binary64, up, down, odd, fits, is_nan, ne, neg, of_fields, of_bits, to_bits, nan_bits, ones, hid, top}
 use lib.Ieee.Bits.{of_bits-to_bits, nan_bits_is, nan_bits_above}
 use borrow.Author.Tests.{eq-eqb, lt-ltb, le-ltb}
+use Rattle.std.specs.Float.{float_with_sign, float_signum}
 use Rattle.floats.specs.Methods.{abs_of, signed_one, signum_of}
 
 -- ---- NaN
@@ -116,3 +117,19 @@ signum-set (inf true) f n h = refl
 signum-set (inf false) f n h = absurd (omega arith)
 signum-set (fin true m e) f n h = refl
 signum-set (fin false m e) f n h = absurd (omega (arith, unsigned-below m e f))
+
+-- ---- the library's methods
+
+pub abs_is : (x : Float) → float_with_sign false x ≡ abs_of x
+unfolding float_with_sign abs_of
+abs_is nan = refl
+abs_is (inf s) = refl
+abs_is (fin s m e) = refl
+
+pub signum_is : (x : Float) → float_signum x ≡ signum_of x
+unfolding float_signum signum_of of_bits neg
+signum_is nan = refl
+signum_is (inf true) = refl
+signum_is (inf false) = refl
+signum_is (fin true m e) = refl
+signum_is (fin false m e) = refl

@@ -1,4 +1,4 @@
--- The periodic lattice: its lawful sizes, its vertices, and its pentachorons in the order of 01. Definitions only.
+-- The periodic lattice: its lawful sizes, its vertices, and its pentachorons in the order of the Rust's loops. Definitions only.
 use Rattle.std.specs.Prelude.{ℕ, zero, suc, ◌+◌, ◌*◌, ◌/◌, ◌%◌, Bool, cond, ◌&&◌, List, [], ◌∷◌, map, eqb, leb, get_or, set}
 use Rattle.lists.specs.Lists.{gather, upto}
 use Rattle.lists.specs.Keys.{firsts}

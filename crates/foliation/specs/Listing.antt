@@ -2,7 +2,6 @@
 use Rattle.refusals.specs.declared.Refusal.{Refusal}
 use Rattle.std.specs.Prelude.{ℕ, ◌*◌, ◌≡◌, not, cond, List, ltb, length, Err, Ok, Result}
 use Rattle.refusals.specs.declared.Refusal.TheVariants.{ShortRoom, LatticeSize}
-use Rattle.refusals.specs.Refusals.{number_of, number_in, value_or}
 use Rattle.lists.specs.Rows.{flat, over}
 use Rattle.foliation.specs.declared.Lattice.{Lattice}
 use Rattle.foliation.specs.Lattice.{vertex_count, is_lawful, lattice_pents}

@@ -2,7 +2,16 @@
 use Rattle.std.specs.Prelude.{ℕ, ◌/◌, ◌%◌, ◌≤◌, List, [], get_or}
 use Rattle.foliation.specs.declared.Lattice.{Lattice}
 use Rattle.foliation.specs.declared.coords.Coords.{Coords}
+use Rattle.foliation.specs.declared.hypercubic.Axis.{Axis}
+use Rattle.foliation.specs.declared.hypercubic.Axis.TheVariants.{T, X, Y, Z}
 use Rattle.foliation.specs.Lattice.{coords_of, orders, path}
+
+-- the number of an axis in an order
+abbrev pub axis_number : Axis → ℕ
+axis_number T = 0
+axis_number X = 1
+axis_number Y = 2
+axis_number Z = 3
 
 -- no coordinate is above m
 pub record Near (m : ℕ) (c : Coords) : Type 0 where

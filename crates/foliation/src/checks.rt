@@ -5,22 +5,11 @@ ghost use Rattle.foliation.specs.Lattice.{is_lawful};
 use crate::Lattice;
 
 // Whether n_t and n_s are in 2..8 and there are at most 341 cells.
+#[tactic(auto, unfolding(crate::specs::Lattice::is_lawful))]
 pub fn is_lawful(lattice: Lattice) -> bool
     ensures { result ≡ is_lawful lattice }
 {
     let n_t = lattice.n_t;
     let n_s = lattice.n_s;
-    if n_t < 2 {
-        return false;
-    }
-    if 8 < n_t {
-        return false;
-    }
-    if n_s < 2 {
-        return false;
-    }
-    if 8 < n_s {
-        return false;
-    }
-    n_t * (n_s * (n_s * n_s)) <= 341
+    2 <= n_t && n_t <= 8 && 2 <= n_s && n_s <= 8 && n_t * (n_s * (n_s * n_s)) <= 341
 }

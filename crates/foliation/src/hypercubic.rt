@@ -2,68 +2,72 @@
 ghost use Rattle.std.specs.Prelude.{◌≡◌, true, [], ◌*◌, ◌≤◌, ◌<◌, length, get_or};
 ghost use Rattle.lists.specs.Rows.{flat, over};
 ghost use Rattle.foliation.specs.Lattice.{vertex_count, is_lawful, orders, stepped, paths, lattice_pents};
-ghost use Rattle.foliation.specs.Parts.{Near, path_at};
+ghost use Rattle.foliation.specs.Parts.{axis_number, Near, path_at};
 
+use self::Axis::{T, X, Y, Z};
 use crate::Lattice;
 use crate::coords::{Coords, n_total, vertex_coords_4d, vidx};
 use complex::sorted;
 use lists::{copy_row, meet_rows};
 
+// An axis of the lattice.
+#[derive(Clone, Copy)]
+enum Axis {
+    T,
+    X,
+    Y,
+    Z,
+}
+
 // The orders of the axes t, x, y, z, as `permute` yields them.
-const ORDERS: [[usize; 4]; 24] = [
-    [0, 1, 2, 3],
-    [0, 1, 3, 2],
-    [0, 2, 1, 3],
-    [0, 2, 3, 1],
-    [0, 3, 2, 1],
-    [0, 3, 1, 2],
-    [1, 0, 2, 3],
-    [1, 0, 3, 2],
-    [1, 2, 0, 3],
-    [1, 2, 3, 0],
-    [1, 3, 2, 0],
-    [1, 3, 0, 2],
-    [2, 1, 0, 3],
-    [2, 1, 3, 0],
-    [2, 0, 1, 3],
-    [2, 0, 3, 1],
-    [2, 3, 0, 1],
-    [2, 3, 1, 0],
-    [3, 1, 2, 0],
-    [3, 1, 0, 2],
-    [3, 2, 1, 0],
-    [3, 2, 0, 1],
-    [3, 0, 2, 1],
-    [3, 0, 1, 2],
+const ORDERS: [[Axis; 4]; 24] = [
+    [T, X, Y, Z],
+    [T, X, Z, Y],
+    [T, Y, X, Z],
+    [T, Y, Z, X],
+    [T, Z, Y, X],
+    [T, Z, X, Y],
+    [X, T, Y, Z],
+    [X, T, Z, Y],
+    [X, Y, T, Z],
+    [X, Y, Z, T],
+    [X, Z, Y, T],
+    [X, Z, T, Y],
+    [Y, X, T, Z],
+    [Y, X, Z, T],
+    [Y, T, X, Z],
+    [Y, T, Z, X],
+    [Y, Z, T, X],
+    [Y, Z, X, T],
+    [Z, X, Y, T],
+    [Z, X, T, Y],
+    [Z, Y, X, T],
+    [Z, Y, T, X],
+    [Z, T, Y, X],
+    [Z, T, X, Y],
 ];
 
 // The axis of a step in an order.
-fn axis_at(order: usize, step: usize) -> usize
+fn axis_at(order: usize, step: usize) -> Axis
     requires { (order < 24) × (step < 4) }
-    ensures { result ≡ get_or (get_or orders order []) step 0 }
+    ensures { axis_number result ≡ get_or (get_or orders order []) step 0 }
 {
     ORDERS[order][step]
 }
 
 // One step along an axis.
-fn step(at: Coords, axis: usize) -> Coords
+#[tactic(auto, unfolding(crate::specs::Lattice::stepped))]
+fn step(at: Coords, axis: Axis) -> Coords
     requires { Near 1000 at }
-    ensures { result ≡ stepped at axis }
+    ensures { result ≡ stepped at (axis_number axis) }
 {
     let mut to = at;
-    if axis == 0 {
-        to.t += 1;
-        return to;
+    match axis {
+        T => to.t += 1,
+        X => to.x += 1,
+        Y => to.y += 1,
+        Z => to.z += 1,
     }
-    if axis == 1 {
-        to.x += 1;
-        return to;
-    }
-    if axis == 2 {
-        to.y += 1;
-        return to;
-    }
-    to.z += 1;
     to
 }
 
@@ -93,10 +97,8 @@ fn write_paths(lattice: Lattice, given: &mut [u32])
     ensures { given.new ≡ over (flat (paths lattice)) given.old }
 {
     let count = 24 * n_total(lattice);
-    let mut k = 0;
-    while k < count {
+    for k in 0..count {
         copy_row(given, 5 * k, &path_at(lattice, k));
-        k += 1;
     }
 }
 

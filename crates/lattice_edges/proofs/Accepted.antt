@@ -22,7 +22,6 @@ use Rattle.lists.proofs.Keys.{firsts-distinct, firsts_has, firsts-only}
 use Rattle.lists.proofs.Rows.{begins-over}
 use Rattle.lists.proofs.Sorting.{sort-mem, sort-rising, rising_ascending, rising-once}
 use Rattle.complex.specs.declared.Counts.{Counts}
-use Rattle.complex.specs.declared.Built.TheVariants as Built
 use Rattle.complex.specs.declared.checks.Rooms.{Rooms}
 use Rattle.complex.specs.Builder.{sorted_pents, is_short, check_of, counts_of, Lists, written, over_all, Builds}
 use Rattle.complex.proofs.SortedPents.{sorted-is, flat_back}

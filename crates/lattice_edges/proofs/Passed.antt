@@ -1,10 +1,15 @@
 -- What a call over a lattice's complex is like where its checks let it pass. Assumes nothing.
 use Rattle.refusals.specs.Refusals.{Done}
-use Prim.Native.Nat.{ℕ, ◌*◌, ◌≤◌}
+use Prim.Native.Nat.{ℕ, ◌*◌, ◌/◌, ◌≤◌}
 use mathlib.Core.Path.{◌≡◌}
 use mathlib.Core.Bool.{true, not, ◌&&◌}
 use lib.Dec.{ltb}
-use lib.ListN.{length}
+use mathlib.Core.List.{List}
+use native.Mathlib.Omega.{arith}
+use lib.ListN.{length, take}
+use lib.Seq.{length-take-le}
+use Rattle.lists.specs.Rows.{rows}
+use Rattle.lists.proofs.Rows.{rows_take}
 use borrow.Author.Tests.{ltb-false, not-false}
 use Rattle.refusals.specs.declared.Refusal.TheVariants.{ShortRoom, LatticeSize, NotBuilt}
 use Rattle.lists.proofs.Tests.{and-true, said}
@@ -38,3 +43,10 @@ passed l c ls room h =
       ends = has_room Edge (pents_in c ls.pents) c.edges ls.edges built.has_edges;
       places = ltb-false room c.edges r.0;
     }
+
+-- the edges at the front of a list, taken alone
+pub front-rows : (n : ℕ) (xs : List ℕ) → 2 * n ≤ length xs → rows 2 (length (take (2 * n) xs) / 2) (take (2 * n) xs) ≡ rows 2 n xs
+front-rows n xs h =
+    let long : length (take (2 * n) xs) ≡ 2 * n = length-take-le _ _ h in
+    let half : length (take (2 * n) xs) / 2 ≡ n = omega (arith, long) in
+    rw half (rows_take 2 n (2 * n) xs (omega arith) h)

@@ -1,9 +1,10 @@
 -- The types and the flat squared lengths of a lattice's edges. Definitions only.
-use Rattle.std.specs.Prelude.{ℕ, ◌+◌, ◌/◌, ◌%◌, Bool, false, cond, List, map, eqb, ltb, get_or, ℤ, pos, negsuc, Float}
+use Rattle.std.specs.Prelude.{ℕ, ◌≡◌, ◌+◌, ◌/◌, ◌%◌, Bool, false, cond, List, length, map, eqb, ltb, get_or, ℤ, pos, negsuc, Float}
 use Rattle.std.proofs.Math.IntN.{sub_ℕ}
 use Rattle.std.specs.Float.{binary64}
 use Rattle.std.specs.Float.Ieee.{neg, of_int}
 use Rattle.floats.specs.Ops.{◌⊕◌, ◌⊗◌}
+use Rattle.lists.specs.Rows.{rows, over}
 use Rattle.foliation.specs.declared.Lattice.{Lattice}
 use Rattle.foliation.specs.Lattice.{coords_of}
 use Rattle.lattice_edges.specs.declared.edges.EdgeType.{EdgeType}
@@ -55,3 +56,14 @@ sq_length_of l a b spacing dt =
 -- the squared lengths of some edges
 unfoldable pub lengths_of : Lattice → List (List ℕ) → Float → Float → List Float
 lengths_of l es spacing dt = map (λ e. sq_length_of l (get_or e 0 0) (get_or e 1 0) spacing dt) es
+
+-- ---- entries of edges
+
+-- a closure's answer is what h makes of two vertices
+abbrev pub Gives : {A : Type 0} → (ℕ → ℕ → A → Type 0) → (ℕ → ℕ → A) → Type 0
+Gives {A} post h = (a b : ℕ) (v : A) → post a b v → v ≡ h a b
+
+-- the entries of some edges, whatever h the closure computes, go to the front of a list
+abbrev pub WritesEntries : {A : Type 0} → (ℕ → ℕ → A → Type 0) → List ℕ → List A → List A → Type 0
+WritesEntries {A} post edges old new =
+    (h : ℕ → ℕ → A) → Gives post h → new ≡ over (map (λ e. h (get_or e 0 0) (get_or e 1 0)) (rows 2 (length edges / 2) edges)) old

@@ -7,7 +7,6 @@ ghost use Rattle.lattice_edges.specs.OnLattice.{has_lattice_pents, lattice_check
 use comparison::is_built;
 use complex::Complex;
 use foliation::{Lattice, is_lawful, list, n_total};
-use lists::same_row;
 use refusals::Refusal;
 
 // Whether vertex count and pentachorons are those of the lattice.
@@ -21,24 +20,18 @@ fn has_pents(lattice: Lattice, complex: &Complex<'_>) -> bool
     }
     let mut own = [0u32; 40920];
     let count = list(lattice, &mut own);
-    let len = 5 * count;
-    if counts.pentachorons != count || complex.pents.len() < len {
-        return false;
-    }
-    same_row(complex.pents, 0, &own[..len])
+    counts.pentachorons == count && complex.pents.starts_with(&own[..5 * count])
 }
 
 // 6, 7 and 5 of a list with a place for each edge.
+#[tactic(auto, unfolding(crate::specs::OnLattice::lattice_check_of))]
 pub fn check(lattice: Lattice, complex: &Complex<'_>, room: usize) -> Result<(), Refusal>
     ensures { result ≡ lattice_check_of lattice complex.now.counts (lists_of complex.now) room }
 {
     if !is_lawful(lattice) {
         return Err(Refusal::LatticeSize);
     }
-    if !has_pents(lattice, complex) {
-        return Err(Refusal::NotBuilt);
-    }
-    if !is_built(complex) {
+    if !(has_pents(lattice, complex) && is_built(complex)) {
         return Err(Refusal::NotBuilt);
     }
     if room < complex.counts.edges {

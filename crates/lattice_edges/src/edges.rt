@@ -1,11 +1,11 @@
 // The edges of a lattice: their types and flat squared lengths, by the coordinates of their two vertices.
-ghost use Rattle.std.specs.Prelude.{◌≡◌, true, ◌*◌, ◌^◌, ◌≤◌, ◌<◌, length};
+ghost use Rattle.std.specs.Prelude.{◌≡◌, true, ◌/◌, ◌^◌, ◌≤◌, ◌<◌, length};
 ghost use Rattle.std.proofs.Math.IntN.{sub_ℕ};
 ghost use Rattle.std.specs.Float.{binary64};
 ghost use Rattle.std.specs.Float.Ieee.{of_int};
 ghost use Rattle.lists.specs.Rows.{rows, over};
 ghost use Rattle.foliation.specs.Lattice.{is_lawful};
-ghost use Rattle.lattice_edges.specs.Edges.{type_byte, edge_type_of, min_image, sq_length_of, types_of, lengths_of};
+ghost use Rattle.lattice_edges.specs.Edges.{WritesEntries, type_byte, edge_type_of, min_image, sq_length_of, types_of, lengths_of};
 
 use foliation::{Lattice, vertex_coords_4d};
 
@@ -25,11 +25,7 @@ impl EdgeType {
     pub fn byte(self) -> u8
         ensures { result ≡ type_byte self }
     {
-        match self {
-            EdgeType::Spatial => 0,
-            EdgeType::Timelike => 1,
-            EdgeType::Diagonal => 2,
-        }
+        self as u8
     }
 }
 
@@ -50,7 +46,7 @@ fn edge_type(lattice: Lattice, a: u32, b: u32) -> EdgeType
     EdgeType::Diagonal
 }
 
-// The double of b - a.
+// The double of b - a, in unsigned numbers: signed ones would need a bound for each cast, and be no plainer.
 fn difference(a: usize, b: usize) -> f64
     requires { (a < 2 ^ 40) × (b < 2 ^ 40) }
     ensures { result ≡ of_int binary64 (sub_ℕ b a) }
@@ -92,33 +88,40 @@ fn sq_length(lattice: Lattice, a: u32, b: u32, spacing: f64, dt: f64) -> f64
     -delta_t * delta_t + delta_x * delta_x + delta_y * delta_y + delta_z * delta_z
 }
 
-// The types of the first n edges.
-pub fn write_types(lattice: Lattice, n: usize, edges: &[u32], types: &mut [u8])
-    requires { (is_lawful lattice ≡ true) × (2 * n ≤ length edges.now) × (n ≤ length types.old) }
-    ensures { types.new ≡ over (types_of lattice (rows 2 n edges.now)) types.old }
+// What is made of each edge's two vertices goes to the front of a list.
+fn write_entries<T: Copy, F: Fn(u32, u32) -> T>(edges: &[u32], list: &mut [T], entry: F)
+    requires room { length edges.now / 2 ≤ length list.old }
+    requires callable { F.IsAlwaysCallable entry }
+    ensures { WritesEntries (F.post entry) edges.now list.old list.new }
 {
-    let mut k = 0;
-    while k < n {
-        types[k] = edge_type(lattice, edges[2 * k], edges[2 * k + 1]).byte();
-        k += 1;
+    // By index: after a loop over `iter_mut` and `zip` a proof knows the length of the list, and no entry.
+    for k in 0..edges.len() / 2 {
+        list[k] = entry(edges[2 * k], edges[2 * k + 1]);
     }
 }
 
-// The squared lengths of the first n edges.
+// The types of some edges.
+pub fn write_types(lattice: Lattice, edges: &[u32], types: &mut [u8])
+    requires { (is_lawful lattice ≡ true) × (length edges.now / 2 ≤ length types.old) }
+    ensures { types.new ≡ over (types_of lattice (rows 2 (length edges.now / 2) edges.now)) types.old }
+{
+    write_entries(edges, types, |a, b| edge_type(lattice, a, b).byte());
+}
+
+// The squared lengths of some edges.
 pub fn write_sq_lengths(
     lattice: Lattice,
-    n: usize,
     edges: &[u32],
     spacing: f64,
     dt: f64,
     sq_lengths: &mut [f64],
 )
-    requires { (is_lawful lattice ≡ true) × (2 * n ≤ length edges.now) × (n ≤ length sq_lengths.old) }
-    ensures { sq_lengths.new ≡ over (lengths_of lattice (rows 2 n edges.now) spacing dt) sq_lengths.old }
+    requires { (is_lawful lattice ≡ true) × (length edges.now / 2 ≤ length sq_lengths.old) }
+    ensures { sq_lengths.new ≡ over (lengths_of lattice (rows 2 (length edges.now / 2) edges.now) spacing dt) sq_lengths.old }
 {
-    let mut k = 0;
-    while k < n {
-        sq_lengths[k] = sq_length(lattice, edges[2 * k], edges[2 * k + 1], spacing, dt);
-        k += 1;
-    }
+    write_entries(
+        edges,
+        sq_lengths,
+        |a, b| sq_length(lattice, a, b, spacing, dt),
+    );
 }

@@ -15,20 +15,18 @@ use refusals::Refusal;
 
 // The type of each edge of a lattice's complex, a byte per edge. A refused call leaves the list as it was; otherwise the places
 // that are not written are kept.
-pub fn edge_types(
-    lattice: Lattice,
-    complex: &Complex<'_>,
-    types: &mut [u8],
-) -> Result<(), Refusal>
+pub fn edge_types(lattice: Lattice, complex: &Complex<'_>, types: &mut [u8]) -> Result<(), Refusal>
     ensures { Filled lattice complex.now.counts (lists_of complex.now) (types_of lattice (edges_of complex.now)) types.old result types.new }
 {
     checks::check(lattice, complex, types.len())?;
-    edges::write_types(lattice, complex.counts.edges, complex.edges, types);
+    edges::write_types(lattice, &complex.edges[..2 * complex.counts.edges], types);
     Ok(())
 }
 
 // `flat_minkowski_sq_lengths`: the signed squared length of each edge of a lattice's complex, with any spacing and any time step. A
 // refused call leaves the list as it was; otherwise the places that are not written are kept.
+// Shares its two steps with `edge_types`: as one function over the entry it would be no plainer, since the entry may be asked for
+// only after the check has passed the size.
 pub fn flat_minkowski_sq_lengths(
     lattice: Lattice,
     complex: &Complex<'_>,
@@ -39,6 +37,12 @@ pub fn flat_minkowski_sq_lengths(
     ensures { Filled lattice complex.now.counts (lists_of complex.now) (lengths_of lattice (edges_of complex.now) spacing dt) sq_lengths.old result sq_lengths.new }
 {
     checks::check(lattice, complex, sq_lengths.len())?;
-    edges::write_sq_lengths(lattice, complex.counts.edges, complex.edges, spacing, dt, sq_lengths);
+    edges::write_sq_lengths(
+        lattice,
+        &complex.edges[..2 * complex.counts.edges],
+        spacing,
+        dt,
+        sq_lengths,
+    );
     Ok(())
 }

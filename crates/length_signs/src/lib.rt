@@ -6,7 +6,7 @@ ghost use Rattle.length_signs.specs.LengthSigns.{signs_of};
 ghost use Rattle.length_signs.specs.Parts.{with_length};
 
 // Counts of lengths below zero, of either zero, and of all others, NaN among them.
-#[derive(Clone, Copy)]
+#[derive(Clone, Copy, Default)]
 pub struct LengthSigns {
     pub timelike: usize,
     pub null: usize,
@@ -19,23 +19,20 @@ fn with_length(signs: LengthSigns, s: f64) -> LengthSigns
     ensures { result ≡ with_length signs s }
 {
     if s < 0.0 {
-        return LengthSigns {
+        LengthSigns {
             timelike: signs.timelike + 1,
-            null: signs.null,
-            spacelike: signs.spacelike,
-        };
-    }
-    if s == 0.0 {
-        return LengthSigns {
-            timelike: signs.timelike,
+            ..signs
+        }
+    } else if s == 0.0 {
+        LengthSigns {
             null: signs.null + 1,
-            spacelike: signs.spacelike,
-        };
-    }
-    LengthSigns {
-        timelike: signs.timelike,
-        null: signs.null,
-        spacelike: signs.spacelike + 1,
+            ..signs
+        }
+    } else {
+        LengthSigns {
+            spacelike: signs.spacelike + 1,
+            ..signs
+        }
     }
 }
 
@@ -43,15 +40,9 @@ fn with_length(signs: LengthSigns, s: f64) -> LengthSigns
 pub fn length_signs(sq_lengths: &[f64]) -> LengthSigns
     ensures { result ≡ signs_of sq_lengths.now }
 {
-    let mut signs = LengthSigns {
-        timelike: 0,
-        null: 0,
-        spacelike: 0,
-    };
-    let mut k = 0;
-    while k < sq_lengths.len() {
-        signs = with_length(signs, sq_lengths[k]);
-        k += 1;
+    let mut signs = LengthSigns::default();
+    for s in sq_lengths {
+        signs = with_length(signs, *s);
     }
     signs
 }

@@ -8,6 +8,7 @@ use Rattle.complex.specs.declared.Counts.{Counts}
 use Rattle.complex.specs.Builder.{Built}
 use Rattle.complex.specs.Builder.{check_of, built_of, Lists, lists, lists_after}
 use Rattle.complex.specs.Check.{room_for}
+use Rattle.packed_input.specs.declared.DecodedLists.{DecodedLists}
 use Rattle.packed_input.specs.Format.{vertex_count, pent_count, vertices_end, vertices, lengths_start, padding, sq_lengths_in}
 
 -- ---- refusals
@@ -52,7 +53,7 @@ abbrev pub with_lengths : List ℕ → Built → Built
 with_lengths input (Ok c) = counts_by (tail_check_of input c.pentachorons c.edges) c
 with_lengths input (Err r) = Err r
 
--- the answer: the counts of the complex, or the first refusal in 01's order
+-- the answer: the counts of the complex, or the first refusal, in the order in which the parts are read
 abbrev pub decoded_of : List ℕ → Built
 decoded_of input = with_lengths input (complex_of input)
 
@@ -67,6 +68,12 @@ lengths_after input (Err r) old = old
 abbrev pub Few : Built → ℕ → Type 0
 Few (Ok c) places = (c.pentachorons ≤ 64) × (c.edges ≤ 640) × (c.edges ≤ places)
 Few (Err r) places = Unit {0}
+
+-- the ten lists that a decoded complex holds
+abbrev pub lists_held : DecodedLists → Lists
+lists_held h =
+    lists h.pents h.edges h.triangles h.tets h.tri_to_pents_items h.tri_to_pents_starts
+    h.edge_to_tris_items h.edge_to_tris_starts h.edge_to_pents_items h.edge_to_pents_starts
 
 -- ten lists of zeros, with the room for 64 pentachorons
 unfoldable pub zero_lists : Lists

@@ -7,7 +7,7 @@ fn bit(input: &[u8], k: usize) -> u64
     requires { k < 8 * length input.now }
     ensures { result ≡ bit_at input.now k }
 {
-    let byte = input[k / 8] as u64;
+    let byte = u64::from(input[k / 8]);
     let after = 7 - k as u64 % 8;
     (byte >> after) % 2
 }

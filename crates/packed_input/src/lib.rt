@@ -5,22 +5,21 @@ mod bits;
 mod fields;
 
 ghost use Rattle.std.specs.Prelude.{◌≡◌, length};
-ghost use Rattle.complex.specs.Builder.{Built, lists, lists_after, rooms_of};
+ghost use Rattle.complex.specs.Builder.{Built, lists_after, rooms_of};
 ghost use Rattle.complex.specs.Check.{room_for};
-ghost use Rattle.complex.specs.Lent.{lists_in, SameLists};
-ghost use Rattle.packed_input.specs.Decoding.{complex_of, complex_check_of, given_in, with_lengths, lengths_after, Few, Decodes};
+ghost use Rattle.complex.specs.Lent.{lists_of, lists_in, SameLists};
+ghost use Rattle.packed_input.specs.Decoding.{complex_of, complex_check_of, given_in, with_lengths, lengths_after, Few, lists_held, Decodes};
 
-use bits::number;
 use builder::from_pentachorons;
-use complex::{AdjacencyListMut, Counts, ListsMut};
-use fields::{check_header, check_tail, read_lengths, read_vertices};
+use complex::{AdjacencyList, Complex, Counts, ListsMut};
+use fields::{
+    Layout, check_header, check_tail, pent_count, read_lengths, read_vertices, vertex_count,
+};
 use refusals::Refusal;
 
-// A decoded input: the counts of its complex or the refusal, the lists of the complex, and its squared lengths in the order of
-// the edges. The lists have room for 64 pentachorons; what is not written is zero.
+// The ten lists of a decoded complex, with room for 64 pentachorons; what is not written is zero.
 #[derive(Clone, Copy)]
-pub struct Decoded {
-    pub answer: Result<Counts, Refusal>,
+pub struct DecodedLists {
     pub pents: [u32; 320],
     pub edges: [u32; 1280],
     pub triangles: [u32; 1920],
@@ -31,6 +30,42 @@ pub struct Decoded {
     pub edge_to_tris_starts: [u32; 641],
     pub edge_to_pents_items: [u32; 640],
     pub edge_to_pents_starts: [u32; 641],
+}
+
+impl DecodedLists {
+    // The lists, lent as the complex that has these counts.
+    pub fn complex(&self, counts: Counts) -> Complex<'_>
+        ensures counts { result.counts ≡ counts }
+        ensures lists { lists_of result ≡ lists_held self.now }
+    {
+        Complex {
+            counts,
+            pents: &self.pents,
+            edges: &self.edges,
+            triangles: &self.triangles,
+            tets: &self.tets,
+            tri_to_pents: AdjacencyList {
+                items: &self.tri_to_pents_items,
+                starts: &self.tri_to_pents_starts,
+            },
+            edge_to_tris: AdjacencyList {
+                items: &self.edge_to_tris_items,
+                starts: &self.edge_to_tris_starts,
+            },
+            edge_to_pents: AdjacencyList {
+                items: &self.edge_to_pents_items,
+                starts: &self.edge_to_pents_starts,
+            },
+        }
+    }
+}
+
+// A decoded input: the counts of its complex or the refusal, the lists of the complex, and its squared lengths in the order of
+// the edges, of which 640 have room; what is not written is zero.
+#[derive(Clone, Copy)]
+pub struct Decoded {
+    pub answer: Result<Counts, Refusal>,
+    pub lists: DecodedLists,
     pub sq_lengths: [f64; 640],
 }
 
@@ -43,10 +78,9 @@ fn decode_complex(input: &[u8], lists: &mut ListsMut<'_>) -> Result<Counts, Refu
 {
     check_header(input)?;
     let mut given = [0u32; 320];
-    let n_vertices = number(input, 0, 13) as usize;
-    let n_pents = number(input, 13, 14) as usize;
-    read_vertices(input, n_pents, &mut given);
-    from_pentachorons(n_vertices, &given[..5 * n_pents], lists)
+    let n_pents = pent_count(input);
+    read_vertices(input, Layout { n_pents }, &mut given);
+    from_pentachorons(vertex_count(input), &given[..5 * n_pents], lists)
 }
 
 // The counts of a complex, or 12 where its lengths are not all that is left of the input. A refused call leaves the list as it was.
@@ -59,8 +93,11 @@ fn decode_lengths(
     ensures { (result ≡ with_lengths input.now built) × (sq_lengths.new ≡ lengths_after input.now result sq_lengths.old) }
 {
     let counts = built?;
-    check_tail(input, counts.pentachorons, counts.edges)?;
-    read_lengths(input, counts.pentachorons, counts.edges, sq_lengths);
+    let layout = Layout {
+        n_pents: counts.pentachorons,
+    };
+    check_tail(input, layout, counts.edges)?;
+    read_lengths(input, layout, counts.edges, sq_lengths);
     Ok(counts)
 }
 
@@ -68,55 +105,38 @@ fn decode_lengths(
 // vertices that are cut short, the builder's 1, 3 and 4, and 12 for a bit set before the lengths or lengths that do not end the
 // input exactly.
 pub fn decode(input: &[u8]) -> Decoded
-    ensures { Decodes input.now result.answer
-        (lists result.pents result.edges result.triangles result.tets
-        result.tri_to_pents_items result.tri_to_pents_starts result.edge_to_tris_items result.edge_to_tris_starts
-        result.edge_to_pents_items result.edge_to_pents_starts)
-        result.sq_lengths }
+    ensures { Decodes input.now result.answer (lists_held result.lists) result.sq_lengths }
 {
-    let mut pents = [0u32; 320];
-    let mut edges = [0u32; 1280];
-    let mut triangles = [0u32; 1920];
-    let mut tets = [0u32; 1280];
-    let mut tri_to_pents_items = [0u32; 640];
-    let mut tri_to_pents_starts = [0u32; 641];
-    let mut edge_to_tris_items = [0u32; 1920];
-    let mut edge_to_tris_starts = [0u32; 641];
-    let mut edge_to_pents_items = [0u32; 640];
-    let mut edge_to_pents_starts = [0u32; 641];
-    let mut sq_lengths = [0.0; 640];
-    let mut lists = ListsMut {
-        pents: &mut pents,
-        edges: &mut edges,
-        triangles: &mut triangles,
-        tets: &mut tets,
-        tri_to_pents: AdjacencyListMut {
-            items: &mut tri_to_pents_items,
-            starts: &mut tri_to_pents_starts,
-        },
-        edge_to_tris: AdjacencyListMut {
-            items: &mut edge_to_tris_items,
-            starts: &mut edge_to_tris_starts,
-        },
-        edge_to_pents: AdjacencyListMut {
-            items: &mut edge_to_pents_items,
-            starts: &mut edge_to_pents_starts,
-        },
+    let mut lists = DecodedLists {
+        pents: [0; 320],
+        edges: [0; 1280],
+        triangles: [0; 1920],
+        tets: [0; 1280],
+        tri_to_pents_items: [0; 640],
+        tri_to_pents_starts: [0; 641],
+        edge_to_tris_items: [0; 1920],
+        edge_to_tris_starts: [0; 641],
+        edge_to_pents_items: [0; 640],
+        edge_to_pents_starts: [0; 641],
     };
-    let built = decode_complex(input, &mut lists);
+    let mut sq_lengths = [0.0; 640];
+    let mut lent = ListsMut {
+        pents: &mut lists.pents,
+        edges: &mut lists.edges,
+        triangles: &mut lists.triangles,
+        tets: &mut lists.tets,
+        tri_to_pents_items: &mut lists.tri_to_pents_items,
+        tri_to_pents_starts: &mut lists.tri_to_pents_starts,
+        edge_to_tris_items: &mut lists.edge_to_tris_items,
+        edge_to_tris_starts: &mut lists.edge_to_tris_starts,
+        edge_to_pents_items: &mut lists.edge_to_pents_items,
+        edge_to_pents_starts: &mut lists.edge_to_pents_starts,
+    };
+    let built = decode_complex(input, &mut lent);
     let answer = decode_lengths(input, built, &mut sq_lengths);
     Decoded {
         answer,
-        pents,
-        edges,
-        triangles,
-        tets,
-        tri_to_pents_items,
-        tri_to_pents_starts,
-        edge_to_tris_items,
-        edge_to_tris_starts,
-        edge_to_pents_items,
-        edge_to_pents_starts,
+        lists,
         sq_lengths,
     }
 }

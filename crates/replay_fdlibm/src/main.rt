@@ -3,39 +3,33 @@
 // name, and the answer's bits, or nan. oracle/fdlibm made stdin and stdout from the C's answers.
 #![tactic(auto)]
 
+use replay::Bits;
 use std::io::Result;
 
 // What stands for the digits and the end of one line.
 const LINE: usize = 17;
 
 // One line: the input's bits, the function's name and its answer.
-fn print_answer(rt: &impl Print, input: u64, name: &[u8], answer: f64) -> Result<()> {
-    print!(rt; "{input:016x}")?;
-    rt.write_all(name)?;
-    let text = printing::double_text(answer);
-    let bytes = text.bytes;
-    let len = text.len;
-    rt.write_all(&bytes[..len])?;
-    rt.write_all(b"\n")
+fn print_answer(rt: &impl Print, input: u64, name: &str, answer: f64) -> Result<()> {
+    let bits = Bits(answer);
+    println!(rt; "{input:016x} {name} {bits}")
 }
 
 // The six lines of one input.
 fn print_answers(rt: &impl Print, input: u64) -> Result<()> {
     let x = floats::of_bits(input);
-    print_answer(rt, input, b" root ", root::root(x))?;
-    print_answer(rt, input, b" log ", fdlibm::log(x))?;
-    print_answer(rt, input, b" log1p ", fdlibm::log1p(x))?;
-    print_answer(rt, input, b" acos ", fdlibm::acos(x))?;
-    print_answer(rt, input, b" acosh ", fdlibm::acosh(x))?;
-    print_answer(rt, input, b" asinh ", fdlibm::asinh(x))
+    print_answer(rt, input, "root", root::root(x))?;
+    print_answer(rt, input, "log", fdlibm::log(x))?;
+    print_answer(rt, input, "log1p", fdlibm::log1p(x))?;
+    print_answer(rt, input, "acos", fdlibm::acos(x))?;
+    print_answer(rt, input, "acosh", fdlibm::acosh(x))?;
+    print_answer(rt, input, "asinh", fdlibm::asinh(x))
 }
 
 // The answers to each whole line of the text.
 fn print_lines(rt: &impl Print, text: &[u8]) -> Result<()> {
-    let mut at = 0;
-    while LINE <= text.len() - at {
-        print_answers(rt, replay::number(text, at))?;
-        at += LINE;
+    for line in text.chunks_exact(LINE) {
+        print_answers(rt, replay::number(line, 0))?;
     }
     Ok(())
 }

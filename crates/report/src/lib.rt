@@ -11,7 +11,7 @@ ghost use Rattle.hinges.specs.Hinges.{faces_of, hinges, deficits_of, kinds_of};
 ghost use Rattle.hinges.specs.Action.{gradient};
 ghost use Rattle.report.specs.Report.{Evaluable, Evaluates, Reports};
 
-use complex::{AdjacencyList, Complex, Counts};
+use complex::{Complex, Counts};
 use length_signs::{LengthSigns, length_signs};
 use lorentzian_regge::{lorentzian_deficit_angles, lorentzian_regge_action_grad};
 use packed_input::decode;
@@ -19,6 +19,8 @@ use refusals::Refusal;
 
 // The counts of the complex or the refusal; the counts of signs; for each triangle its deficit and the byte of its kind, for each
 // edge its gradient entry. What is not written is zero, and all is where the input is refused.
+// Deficits and kinds are two lists, and no list of hinges, since the call that works all triangles out in one pass writes the two
+// lists that C lends; a list of hinges would be written a second time.
 #[derive(Clone, Copy)]
 pub struct Report {
     pub answer: Result<Counts, Refusal>,
@@ -62,33 +64,18 @@ pub fn evaluate(input: &[u8]) -> Report
         kinds: [0; 640],
         grad: [0.0; 640],
     };
-    if let Ok(counts) = decoded.answer {
-        let complex = Complex {
-            counts,
-            pents: &decoded.pents,
-            edges: &decoded.edges,
-            triangles: &decoded.triangles,
-            tets: &decoded.tets,
-            tri_to_pents: AdjacencyList {
-                items: &decoded.tri_to_pents_items,
-                starts: &decoded.tri_to_pents_starts,
-            },
-            edge_to_tris: AdjacencyList {
-                items: &decoded.edge_to_tris_items,
-                starts: &decoded.edge_to_tris_starts,
-            },
-            edge_to_pents: AdjacencyList {
-                items: &decoded.edge_to_pents_items,
-                starts: &decoded.edge_to_pents_starts,
-            },
-        };
-        report.signs = evaluate_built(
-            &complex,
-            &decoded.sq_lengths[..counts.edges],
-            &mut report.deficits,
-            &mut report.kinds,
-            &mut report.grad,
-        );
+    match decoded.answer {
+        Err(_) => report,
+        Ok(counts) => {
+            let complex = decoded.lists.complex(counts);
+            report.signs = evaluate_built(
+                &complex,
+                &decoded.sq_lengths[..counts.edges],
+                &mut report.deficits,
+                &mut report.kinds,
+                &mut report.grad,
+            );
+            report
+        }
     }
-    report
 }

@@ -13,7 +13,7 @@ use Rattle.root.proofs.Floor.{Floor, floor_root-floor, floor_root-lt, below_root
 
 -- ---- two doubles are at least a step apart
 
-le-or-lt : (a b : ℕ) → (a ≤ b) ⊎ (b < a)
+pub le-or-lt : (a b : ℕ) → (a ≤ b) ⊎ (b < a)
 le-or-lt a b = go (leb a b) (leb→le a b) (nleb→lt a b)
   where
     go : (t : Bool) → (T t → a ≤ b) → (T (not t) → b < a) → (a ≤ b) ⊎ (b < a)
@@ -142,12 +142,12 @@ units_of q k a b = ⊎_elim
     (le-or-lt (2 ^ 53) q)
 
 -- s is the root of P, cut to 54 digits, and q is s rounded to 53
-record Digits (P q : ℕ) : Type 0 where
-  q_lo : 2 ^ 52 ≤ q
-  q_hi : q ≤ 2 ^ 53
-  over : P < (2 * q + 1) * (2 * q + 1)
-  under : (2 * q - 1) * (2 * q - 1) < P
-  edge : q ≡ 2 ^ 52 → (2 * q) * (2 * q) ≤ P
+pub record Digits (P q : ℕ) : Type 0 where
+  pub q_lo : 2 ^ 52 ≤ q
+  pub q_hi : q ≤ 2 ^ 53
+  pub over : P < (2 * q + 1) * (2 * q + 1)
+  pub under : (2 * q - 1) * (2 * q - 1) < P
+  pub edge : q ≡ 2 ^ 52 → (2 * q) * (2 * q) ≤ P
 
 digits : (P s : ℕ) → Floor P s → 2 ^ 106 ≤ P → s < 2 ^ 54 → P % 2 ≡ 0 → Digits P ((s + 1) / 2)
 digits P s f lo hi e =
@@ -239,25 +239,29 @@ by_pattern (fin s zero e) p h = absurd (not-le_of_lt h (le_of_eq (value→count 
 by_pattern (fin true (suc m) e) p h = absurd (subst T p.0 tt)
 by_pattern (fin false (suc m) e) p h = refl
 
-plain-of-value : (x : Float) (n c : ℕ) → HasValue x false n c → T (fits binary64 x) → Plain x
+pub plain-of-value : (x : Float) (n c : ℕ) → HasValue x false n c → T (fits binary64 x) → Plain x
 plain-of-value nan n c v h = absurd v
 plain-of-value (inf s) n c v h = absurd v
 plain-of-value (fin s m e) n c v h = (v.0, h)
 
-some : (n M p : ℕ) → 0 < n → n ≡ M * p → 0 < M
+pub some : (n M p : ℕ) → 0 < n → n ≡ M * p → 0 < M
 some n zero p h e = absurd (not-le_of_lt h (le_of_eq (e ∙ zero-mul p)))
 some n (suc M) p h e = zero-lt-suc M
 
-record Result (x : Float) : Type 0 where
-  P : ℕ
-  k : ℕ
-  q : ℕ
-  under : count x * 2 ^ 1074 ≡ P * 4 ^ k
-  digits : Digits P q
-  value : HasValue (root_of x) false (q * 2 ^ suc k) (2 ^ 1074)
-  double : T (fits binary64 (root_of x))
+-- what is under the root, the root's significand, and the root
+pub record Result (x : Float) : Type 0 where
+  pub P : ℕ
+  pub k : ℕ
+  pub q : ℕ
+  pub under : count x * 2 ^ 1074 ≡ P * 4 ^ k
+  pub lo : 2 ^ 106 ≤ P
+  pub hi : P < 2 ^ 108
+  pub limit : k ≤ 1532
+  pub digits : Digits P q
+  pub value : HasValue (root_of x) false (q * 2 ^ suc k) (2 ^ 1074)
+  pub double : T (fits binary64 (root_of x))
 
-result : (x : Float) → Plain x → 0 < count x → Result x
+pub result : (x : Float) → Plain x → 0 < count x → Result x
 result x p h =
     let g = significand x p in
     let c : count x ≡ g.M * 2 ^ g.j = value→count x (g.M * 2 ^ g.j) g.is in
@@ -276,6 +280,9 @@ result x p h =
       k = S.k;
       q = q;
       under = e ∙ S.is;
+      lo = S.lo;
+      hi = S.hi;
+      limit = most S.k (size (g.M * 2 ^ a)) S.room z;
       digits = d;
       value = subst (λ (y : Float). HasValue y false (q * 2 ^ suc S.k) (2 ^ 1074)) (sym r)
           (subst (λ (n : ℕ). HasValue (of_bits binary64 b) false n (2 ^ 1074)) (units_of q S.k d.q_lo d.q_hi) (pattern-value b fin));
@@ -284,6 +291,9 @@ result x p h =
   where
     inside : (k q z : ℕ) → k + k + 107 ≤ z → z ≤ 3172 → q ≤ 2 ^ 53 → (k + 1) * 2 ^ 52 + q < 2047 * 2 ^ 52
     inside k q z a b c = omega arith
+
+    most : (k z : ℕ) → k + k + 107 ≤ z → z ≤ 3172 → k ≤ 1532
+    most k z a b = omega arith
 
 pub nearest : (x : Float) → Plain x → 0 < count x → NearestRoot x (root_of x)
 nearest x p h =

@@ -1,3 +1,2 @@
 -- The definitions that contracts on the square root cite.
 pub mod Root
-pub mod Remainder

@@ -1,40 +1,11 @@
 -- `packed_input::decode` meets its contract. Assumes nothing.
 use mathlib.Core.Path.{refl, sym, ap, ◌∙◌, subst}
+use borrow.Author.Rules.{rules}
 use Rattle.complex.specs.Builder.{Built}
 use Rattle.complex.specs.Builder.{rooms_of}
 use Rattle.packed_input.specs.Decoding.{with_lengths, Few, zero_lists}
 use Rattle.packed_input.proofs.Complexes.{few-complex}
 use Rattle.packed_input.proofs.decode.Goals as goal
-
-pub slice_bounds-decode_complex-end : goal.slice_bounds-decode_complex-end
-slice_bounds-decode_complex-end c = refl
-
-pub slice_bounds-decode_complex-end-2 : goal.slice_bounds-decode_complex-end-2
-slice_bounds-decode_complex-end-2 c = refl
-
-pub slice_bounds-decode_complex-end-3 : goal.slice_bounds-decode_complex-end-3
-slice_bounds-decode_complex-end-3 c = refl
-
-pub slice_bounds-decode_complex-end-4 : goal.slice_bounds-decode_complex-end-4
-slice_bounds-decode_complex-end-4 c = refl
-
-pub slice_bounds-decode_complex-end-5 : goal.slice_bounds-decode_complex-end-5
-slice_bounds-decode_complex-end-5 c = refl
-
-pub slice_bounds-decode_complex-end-6 : goal.slice_bounds-decode_complex-end-6
-slice_bounds-decode_complex-end-6 c = refl
-
-pub slice_bounds-decode_complex-end-7 : goal.slice_bounds-decode_complex-end-7
-slice_bounds-decode_complex-end-7 c = refl
-
-pub slice_bounds-decode_complex-end-8 : goal.slice_bounds-decode_complex-end-8
-slice_bounds-decode_complex-end-8 c = refl
-
-pub slice_bounds-decode_complex-end-9 : goal.slice_bounds-decode_complex-end-9
-slice_bounds-decode_complex-end-9 c = refl
-
-pub slice_bounds-decode_complex-end-10 : goal.slice_bounds-decode_complex-end-10
-slice_bounds-decode_complex-end-10 c = refl
 
 pub decode_complex-built-requires : goal.decode_complex-built-requires
 unfolding rooms_of
@@ -51,4 +22,6 @@ unfolding zero_lists
 returns c =
     let f = c.decode_complex-built in
     let g = c.decode_lengths-answer in
-    record { answered = g.ensures.0 ∙ ap (with_lengths c.args.input.now) f.ensures.value; complex = f.ensures.lists_after; lengths = g.ensures.1 }
+    let is = f.ensures.lists_after in
+    let same = f.ensures.same in
+    record { answered = g.ensures.0 ∙ ap (with_lengths c.args.input.now) f.ensures.value; complex = search rules; lengths = g.ensures.1 }

@@ -1,39 +1,40 @@
 -- `report::evaluate` meets its contract. Assumes nothing.
-use Rattle.std.specs.Prelude.{Err}
-use mathlib.Core.Path.{◌≡◌, sym, ◌∙◌}
+use mathlib.Core.Path.{sym, subst, ◌∙◌}
 use native.Mathlib.Omega.{arith}
-use lib.ListN.{length}
-use borrow.Author.Rules.{rules}
+use lib.ListN.{length, replicate, take}
+use Rattle.floats.specs.Ops.{zero}
+use Rattle.complex.specs.declared.Counts.{Counts}
+use Rattle.complex.specs.Builder.{Lists}
+use Rattle.hinges.specs.Hinges.{faces_in}
 use Rattle.packed_input.proofs.DecodedComplex.{decoded-few, decoded-built, length_decoded}
+use Rattle.report.specs.Report.{Evaluable, Evaluates}
 use Rattle.report.proofs.Reporting.{refused_reports, decodes-to, done_reports}
 use Rattle.report.proofs.evaluate.Goals as goal
 
-pub slice_bounds-sq_lengths-end : goal.slice_bounds-sq_lengths-end
-slice_bounds-sq_lengths-end c =
-    let f = c.decode-decoded in
-    let n : length f.result.sq_lengths ≡ 640 = search rules in
-    omega (arith, decoded-few c.args.input.now _ (sym c.in-Ok.is ∙ f.ensures.answered))
+pub shared_ref_as_front-evaluate_built : goal.shared_ref_as_front-evaluate_built
+shared_ref_as_front-evaluate_built c = omega (arith, decoded-few c.args.input.now _ (sym c.in-Ok.is ∙ c.decode-decoded.ensures.answered))
 
-pub slice_bounds-evaluate_built-end-in-Ok-10 : goal.slice_bounds-evaluate_built-end-in-Ok-10
-slice_bounds-evaluate_built-end-in-Ok-10 c =
+pub evaluate_built-report-requires : goal.evaluate_built-report-requires
+evaluate_built-report-requires c =
     let f = c.decode-decoded in
+    let k = c.complex-complex.ensures in
     let d = decodes-to c.args.input.now _ _ _ _ c.in-Ok.is f.ensures in
-    sym (length_decoded _ _ _ _ d)
-
-pub evaluate_built-signs-requires : goal.evaluate_built-signs-requires
-evaluate_built-signs-requires c =
-    let f = c.decode-decoded in
-    let e = c.in-Ok.is in
-    let d = decodes-to c.args.input.now _ _ _ _ e f.ensures in
     let few = decoded-few c.args.input.now _ d.answered in
-    record { built = decoded-built _ _ _ _ d; counted = length_decoded _ _ _ _ d; deficits_room = few.1; kinds_room = few.1; grad_room = few.0 }
+    subst (λ (p : Counts × Lists). Evaluable p.0 p.1 (length (take c.in-Ok.counts.edges f.result.sq_lengths)) 640 640 640) (λ i. (sym k.counts i, sym k.lists i))
+    (record { built = decoded-built _ _ _ _ d; counted = length_decoded _ _ _ _ d; deficits_room = few.1; kinds_room = few.1; grad_room = few.0 })
 
 pub returns-in-Err : goal.returns-in-Err
-returns-in-Err c = refused_reports c.args.input.now _ (sym c.in-Err.is ∙ c.decode-decoded.ensures.answered)
+returns-in-Err c = rw c.in-Err.is (refused_reports c.args.input.now _ (sym c.in-Err.is ∙ c.decode-decoded.ensures.answered))
 
 pub returns-in-Ok : goal.returns-in-Ok
 returns-in-Ok c =
     let f = c.decode-decoded in
-    let e = c.in-Ok.is in
-    let d = decodes-to c.args.input.now _ _ _ _ e f.ensures in
-    done_reports _ _ _ _ d _ _ _ _ c.evaluate_built-signs.ensures
+    let k = c.complex-complex.ensures in
+    let v = c.evaluate_built-report in
+    let d = decodes-to c.args.input.now _ _ _ _ c.in-Ok.is f.ensures in
+    rw c.in-Ok.is
+    (done_reports _ _ _ _ d _ _ _ _
+    (subst
+    (λ (p : Counts × Lists). Evaluates (faces_in p.0 p.1.pents p.1.edges p.1.triangles) (take c.in-Ok.counts.edges f.result.sq_lengths) (replicate 640 zero) (replicate 640 0) (replicate 640 zero) v.result v.new.deficits v.new.kinds v.new.grad)
+    (λ i. (k.counts i, k.lists i))
+    v.ensures))

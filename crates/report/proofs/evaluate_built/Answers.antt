@@ -11,8 +11,8 @@ pub returns : goal.returns
 returns c =
     let a = c.args in
     let ok = c.requires in
-    let t = c.lorentzian_deficit_angles.ensures in
-    let g = c.lorentzian_regge_action_grad.ensures in
+    let t = c.lorentzian_deficit_angles-deficits.ensures in
+    let g = c.lorentzian_regge_action_grad-gradient.ensures in
     let F = faces_of a.complex.now in
     let ls = a.sq_lengths.now in
     let tabled = t.answered ∙ table-passes a.complex.now.counts _ _ _ _ _ ok in

@@ -45,10 +45,19 @@ returns c =
     let pt = numbers-part a.given.now l ok Triangle refl _ _ faces.on_triangles.noted in
     let w : 245760 ≤ length (replicate {A = ℕ} 245760 0) = zeros-room 245760 245760 (omega arith) in
     let work : 245760 ≤ length f.new.next = omega (arith, f.auto.next) in
-    let j = c.adjacency in
-    let same = j.ensures.same in
-    let grouped = j.ensures.lists_after in record {
-      same = record { pents = refl; edges = refl; triangles = refl; tets = refl; tri_to_pents = same.0; edge_to_tris = same.1; edge_to_pents = same.2 };
+    let j = c.adjacency in record {
+      same = record {
+        pents = j.ensures.same.pents;
+        edges = j.ensures.same.edges;
+        triangles = j.ensures.same.triangles;
+        tets = j.ensures.same.tets;
+        tri_to_pents_items = j.ensures.same.tri_to_pents_items;
+        tri_to_pents_starts = j.ensures.same.tri_to_pents_starts;
+        edge_to_tris_items = j.ensures.same.edge_to_tris_items;
+        edge_to_tris_starts = j.ensures.same.edge_to_tris_starts;
+        edge_to_pents_items = j.ensures.same.edge_to_pents_items;
+        edge_to_pents_starts = j.ensures.same.edge_to_pents_starts;
+      };
       value = counts-are a.given.now l ok a.n_vertices _ _ _ _ s _ _ _ _ _ _ _ _ _ refl left faces.on_tets faces.on_edges faces.on_triangles;
-      lists_after = lists-are a.given.now l ok a.n_vertices _ _ _ _ s _ _ _ _ _ _ _ _ _ refl left faces.on_tets faces.on_edges faces.on_triangles _ _ _ j.new.tri_to_pents j.new.edge_to_tris j.new.edge_to_pents pe pt (omega (arith, j.auto.tri_edges)) j.ensures.edges grouped.0 grouped.1 grouped.2;
+      lists_after = lists-are a.given.now l ok a.n_vertices _ _ _ _ s _ _ _ _ _ _ _ _ _ refl left faces.on_tets faces.on_edges faces.on_triangles _ _ _ _ _ pe pt (omega (arith, j.auto.tri_edges)) j.ensures.edges j.ensures.lists_after refl;
     }

@@ -9,4 +9,4 @@ group-requires-2 c =
     let p = c.requires in
     let f = c.edges_of_triangles in
     can-group-triangles a.pent_edges.now a.pent_tris.now f.new.tri_edges a.n_edges a.n_tris (length a.tri_edges.now) _ p f.auto.tri_edges f.ensures
-    (length a.edge_to_tris.now.items.now) (length a.edge_to_tris.now.starts.now) p.room_et p.room_et_starts
+    (length a.lists.now.edge_to_tris_items.now) (length a.lists.now.edge_to_tris_starts.now) p.room_et p.room_et_starts

@@ -1,5 +1,5 @@
 -- `foliation::hypercubic::write_paths` meets its contract. Assumes nothing.
-use Prim.Native.Nat.{◌*◌, ◌-◌, ◌≤◌}
+use Prim.Native.Nat.{◌*◌, ◌≤◌}
 use mathlib.Core.Path.{◌≡◌}
 use mathlib.Core.List.{◌++◌}
 use lib.ListN.{length, drop}
@@ -9,6 +9,3 @@ use Rattle.foliation.proofs.hypercubic.write_paths.Given as goal
 
 abbrev pub invariant-loop-k : goal.invariant-loop-k
 invariant-loop-k l = (l.k ≤ l.count) × (length l.given ≡ length l.initial.given) × (l.given ≡ flat (paths_to l.lattice l.k) ++ drop (5 * l.k) l.initial.given)
-
-abbrev pub decreases-loop-k : goal.decreases-loop-k
-decreases-loop-k l = l.count - l.k

@@ -1,18 +1,28 @@
 -- `lattice_edges::checks::has_pents` meets its contract. Assumes nothing.
-use mathlib.Core.Path.{refl, sym, ◌∙◌}
+use Prim.Native.Nat.{ℕ}
+use mathlib.Core.List.{List}
+use mathlib.Core.Path.{◌≡◌, refl, sym, ◌∙◌}
 use native.Mathlib.Omega.{arith}
-use lib.ListN.{replicate, length-take}
+use lib.Dec.{eqb}
+use lib.ListN.{length, replicate, take}
 use lib.Seq.{length-take-le}
 use borrow.Author.Tests.{eq-eqb, ne_eqb}
-use Rattle.lists.specs.Rows.{flat}
-use Rattle.lists.proofs.Tests.{fails}
-use Rattle.lists.proofs.Keys.{eqs-begins}
-use Rattle.lists.proofs.Rows.{begins-says, begins-long}
-use Rattle.foliation.specs.Lattice.{lattice_pents}
+use Rattle.std.specs.List.{starts_with}
+use Rattle.std.proofs.lemmas.Bool.Decides.{Decides-eqb}
+use Rattle.std.proofs.lemmas.Slice.Eq.{slice_eq-Decides}
+use Rattle.lists.specs.Rows.{begins}
+use Rattle.lists.proofs.Tests.{says-by, says_same}
+use Rattle.lists.proofs.Rows.{begins-says}
 use Rattle.foliation.proofs.Sizes.{lawful}
-use Rattle.foliation.proofs.Listings.{pents-few, length-flat-pents, pents-front, paths-room}
+use Rattle.foliation.proofs.Listings.{pents-few, pents-front, paths-room}
 use Rattle.lattice_edges.specs.OnLattice.{has_lattice_pents}
 use Rattle.lattice_edges.proofs.checks.has_pents.Goals as goal
+
+-- the library's test of a front is the lists' own
+starts_with-begins : (xs new : List ℕ) → starts_with eqb xs new ≡ begins new xs
+starts_with-begins xs new =
+    let d = slice_eq-Decides Decides-eqb new (take (length new) xs) _ refl in
+    says_same sym sym (says-by _ d.0 d.1) (begins-says new xs)
 
 pub returns-then-counts-n_total : goal.returns-then-counts-n_total
 unfolding has_lattice_pents
@@ -25,25 +35,12 @@ list-count-requires c =
     let ok = lawful l c.requires in
     (c.requires, paths-room l ok (replicate 40920 0) (replicate 40920 0) 40920 refl refl refl)
 
-pub overflow_mul-len : goal.overflow_mul-len
-overflow_mul-len c =
+pub overflow_mul-own : goal.overflow_mul-own
+overflow_mul-own c =
     let a = c.args in
     let l = a.lattice in
     let ok = lawful l c.requires in
     omega (arith, c.list-count.ensures.0, pents-few l ok, ok.cells)
-
-pub returns-then-counts-count : goal.returns-then-counts-count
-unfolding has_lattice_pents
-returns-then-counts-count c = rw (eq-eqb _ _ (rw c.n_total.ensures at c.if-counts-n_total.false), ne_eqb _ _ (rw c.list-count.ensures.0 at c.if-counts-count.true)) refl
-
-pub returns-then-pents-len : goal.returns-then-pents-len
-unfolding has_lattice_pents
-returns-then-pents-len c =
-    let a = c.args in
-    let l = a.lattice in
-    let ok = lawful l c.requires in
-    let short = fails (begins-says (flat (lattice_pents l)) a.complex.now.pents.now) (λ e. omega (arith, begins-long (flat (lattice_pents l)) a.complex.now.pents.now e, length-flat-pents l ok, c.list-count.ensures.0)) in
-    rw (eq-eqb _ _ (rw c.n_total.ensures at c.if-counts-n_total.false), eq-eqb _ _ (rw c.list-count.ensures.0 at c.if-counts-count.false), short) refl
 
 pub slice_bounds-own-end : goal.slice_bounds-own-end
 slice_bounds-own-end c =
@@ -52,21 +49,23 @@ slice_bounds-own-end c =
     let ok = lawful l c.requires in
     omega (arith, c.list-count.ensures.0, pents-few l ok, ok.cells)
 
-pub slice_bounds-same_row-end : goal.slice_bounds-same_row-end
-slice_bounds-same_row-end c =
+pub slice_bounds-starts_with-end : goal.slice_bounds-starts_with-end
+slice_bounds-starts_with-end c =
     let a = c.args in
     let l = a.lattice in
     let ok = lawful l c.requires in
     sym (length-take-le _ _ (omega (arith, paths-room l ok (replicate 40920 0) c.list-count.new.pents 40920 refl refl c.list-count.auto.pents, pents-few l ok, c.list-count.ensures.0)))
 
-pub same_row-requires : goal.same_row-requires
-same_row-requires c = simp length-take (omega (arith, c.if-pents-len.false))
-
-pub returns : goal.returns
+pub returns-then-counts-count : goal.returns-then-counts-count
 unfolding has_lattice_pents
-returns c =
+returns-then-counts-count c =
     let a = c.args in
     let l = a.lattice in
     let ok = lawful l c.requires in
     let front = pents-front l ok _ _ _ c.list-count.ensures.0 c.list-count.ensures.1 in
-    rw front at c.same_row.ensures ∙ eqs-begins (flat (lattice_pents l)) a.complex.now.pents.now ∙ rw (eq-eqb _ _ (rw c.n_total.ensures at c.if-counts-n_total.false), eq-eqb _ _ (rw c.list-count.ensures.0 at c.if-counts-count.false)) refl
+    let begun = rw front at (c.starts_with.ensures.value ∙ starts_with-begins a.complex.now.pents.now _) in
+    begun ∙ rw (eq-eqb _ _ (rw c.n_total.ensures at c.if-counts-n_total.false), eq-eqb _ _ (rw c.list-count.ensures.0 at c.if-counts-count.true)) refl
+
+pub returns-else-counts-count : goal.returns-else-counts-count
+unfolding has_lattice_pents
+returns-else-counts-count c = ne_eqb _ _ c.if-counts-count.false ∙ rw (eq-eqb _ _ (rw c.n_total.ensures at c.if-counts-n_total.false), ne_eqb _ _ (rw c.list-count.ensures.0 at c.if-counts-count.false)) refl

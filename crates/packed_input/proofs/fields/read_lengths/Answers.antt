@@ -24,8 +24,8 @@ pub loop-i-preserved : goal.loop-i-preserved
 loop-i-preserved c =
     let a = c.args in
     let l = c.loop-i in
-    let next = map-turn (sq_length_at a.input.now a.n_pents) a.sq_lengths.now l.sq_lengths l.i (omega arith) l.invariant.2 l.invariant.3 in
-    let n : c.number.result ≡ field a.input.now (8 * lengths_start a.n_pents + 64 * l.i) 64 = rw l.invariant.1 at c.number.ensures.0 in
+    let next = map-turn (sq_length_at a.input.now a.layout.n_pents) a.sq_lengths.now l.sq_lengths l.i (omega arith) l.invariant.2 l.invariant.3 in
+    let n : c.number.result ≡ field a.input.now (8 * lengths_start a.layout.n_pents + 64 * l.i) 64 = rw l.invariant.1 at c.number.ensures.0 in
     (omega arith, l.invariant.1, length-set l.sq_lengths _ _ ∙ l.invariant.2, ap (set l.sq_lengths l.i) (c.of_bits.ensures ∙ ap (of_bits binary64) n) ∙ (rw (add-one l.i) next))
 
 pub shape_of-sq_lengths : goal.shape_of-sq_lengths
@@ -37,4 +37,4 @@ returns c =
     let a = c.args in
     let l = c.loop-i in
     let e : l.i ≡ a.n_edges = omega arith in
-    map-done (sq_length_at a.input.now a.n_pents) a.sq_lengths.now l.sq_lengths a.n_edges (rw e at l.invariant.3)
+    map-done (sq_length_at a.input.now a.layout.n_pents) a.sq_lengths.now l.sq_lengths a.n_edges (rw e at l.invariant.3)

@@ -8,7 +8,7 @@ use Rattle.packed_input.specs.Format.{lengths_start, sq_length_at}
 use Rattle.packed_input.proofs.fields.read_lengths.Given as goal
 
 abbrev pub invariant-loop-i : goal.invariant-loop-i
-invariant-loop-i l = (l.i ≤ l.n_edges) × (l.start ≡ 8 * lengths_start l.n_pents) × (length l.sq_lengths ≡ length l.initial.sq_lengths) × (l.sq_lengths ≡ map (sq_length_at l.input l.n_pents) (upto l.i) ++ drop l.i l.initial.sq_lengths)
+invariant-loop-i l = (l.i ≤ l.n_edges) × (l.start ≡ 8 * lengths_start l.fn.layout.n_pents) × (length l.sq_lengths ≡ length l.initial.sq_lengths) × (l.sq_lengths ≡ map (sq_length_at l.input l.fn.layout.n_pents) (upto l.i) ++ drop l.i l.initial.sq_lengths)
 
 abbrev pub decreases-loop-i : goal.decreases-loop-i
 decreases-loop-i l = l.n_edges - l.i

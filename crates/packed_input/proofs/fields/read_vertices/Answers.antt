@@ -34,5 +34,5 @@ unfolding vertices
 returns c =
     let a = c.args in
     let l = c.loop-i in
-    let e : l.i ≡ 5 * a.n_pents = omega arith in
-    map-done (vertex_at a.input.now) a.given.now l.given (5 * a.n_pents) (rw e at l.invariant.3)
+    let e : l.i ≡ 5 * a.layout.n_pents = omega arith in
+    map-done (vertex_at a.input.now) a.given.now l.given (5 * a.layout.n_pents) (rw e at l.invariant.3)

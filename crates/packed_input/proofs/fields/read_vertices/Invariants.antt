@@ -8,7 +8,7 @@ use Rattle.packed_input.specs.Format.{vertex_at}
 use Rattle.packed_input.proofs.fields.read_vertices.Given as goal
 
 abbrev pub invariant-loop-i : goal.invariant-loop-i
-invariant-loop-i l = (l.i ≤ l.i-end) × (l.i-end ≡ 5 * l.n_pents) × (length l.given ≡ length l.initial.given) × (l.given ≡ map (vertex_at l.input) (upto l.i) ++ drop l.i l.initial.given)
+invariant-loop-i l = (l.i ≤ l.i-end) × (l.i-end ≡ 5 * l.fn.layout.n_pents) × (length l.given ≡ length l.initial.given) × (l.given ≡ map (vertex_at l.input) (upto l.i) ++ drop l.i l.initial.given)
 
 abbrev pub decreases-loop-i : goal.decreases-loop-i
 decreases-loop-i l = l.i-end - l.i
