@@ -156,7 +156,14 @@ fn add_first_term<'a>(
     let mut marks = [false; 81920];
     let mut diagonal = [0.0; 81920];
     mark_tris(complex, matrix.free_edges, &mut marks);
-    add_tris(complex, incidence, sq_lengths, &marks, &mut diagonal, matrix);
+    add_tris(
+        complex,
+        incidence,
+        sq_lengths,
+        &marks,
+        &mut diagonal,
+        matrix,
+    );
     put_diagonal(&diagonal, matrix);
 }
 

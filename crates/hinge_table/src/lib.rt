@@ -83,8 +83,8 @@ fn write_records(built: &BuiltComplex<'_>, sq_lengths: &[f64], tris: &[u32], tab
     ensures { table.new ≡ writes (hinge_in (hinges (faces_of built.now.complex) sq_lengths.now)) tris.now table.old }
 {
     for &tri in tris {
-        let record = hinge_at(&built.complex, &built.incidence, sq_lengths, TriangleNumber(tri));
-        table[tri as usize] = record;
+        let number = TriangleNumber(tri);
+        table[tri as usize] = hinge_at(&built.complex, &built.incidence, sq_lengths, number);
     }
 }
 

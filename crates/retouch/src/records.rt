@@ -24,7 +24,12 @@ pub fn write_records(
         × (kinds.new ≡ writes (λ t. kind_number (hinge_in (hinges (faces_of built.now.complex) sq_lengths.now) t).kind) tris.now kinds.old) }
 {
     for &tri in tris {
-        let hinge = hinge_at(&built.complex, &built.incidence, sq_lengths, TriangleNumber(tri));
+        let hinge = hinge_at(
+            &built.complex,
+            &built.incidence,
+            sq_lengths,
+            TriangleNumber(tri),
+        );
         deficits[tri as usize] = hinge.deficit;
         kinds[tri as usize] = byte_of(Some(hinge.kind));
     }

@@ -13,8 +13,8 @@ pub loop-tri-init : goal.loop-tri-init
 unfolding writes
 loop-tri-init c = (refl, refl)
 
-pub hinge_at-record-requires : goal.hinge_at-record-requires
-hinge_at-record-requires c = (measured c.args.built.now (length c.args.sq_lengths.now) c.requires.0, c.requires.1 c.loop-tri.tri-index c.loop-tri-test.true)
+pub hinge_at-requires : goal.hinge_at-requires
+hinge_at-requires c = (measured c.args.built.now (length c.args.sq_lengths.now) c.requires.0, c.requires.1 c.loop-tri.tri-index c.loop-tri-test.true)
 
 pub bounds-table-tri : goal.bounds-table-tri
 bounds-table-tri c = omega (arith, c.requires.1 c.loop-tri.tri-index c.loop-tri-test.true, c.requires.2, c.loop-tri.invariant.0)
@@ -26,7 +26,7 @@ loop-tri-preserved c =
     let T = hinges (faces_of a.built.now.complex) a.sq_lengths.now in
     let t = get_or a.tris.now l.tri-index 0 in (
       length-set l.table _ _ ∙ l.invariant.0,
-      ap (set l.table t) c.hinge_at-record.ensures
+      ap (set l.table t) c.hinge_at.ensures
           ∙ ap (λ xs. set xs t (hinge_in T t)) l.invariant.1
           ∙ sym (writes-next (hinge_in T) a.tris.now a.table.now l.tri-index c.loop-tri-test.true),
     )
