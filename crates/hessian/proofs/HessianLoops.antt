@@ -1,46 +1,52 @@
--- The loops of the local Hessian: the events of marked numbers, and what one pentachoron and one triangle put into the matrix. Assumes nothing.
-use Prim.Native.Nat.{ℕ}
-use mathlib.Core.Bool.{Bool, true, false, cond}
-use mathlib.Core.List.{List, [], ◌∷◌, ◌++◌}
-use mathlib.Core.Path.{◌≡◌, refl, ap}
-use lib.Ieee.{Float}
+-- The loops of the local Hessian: the turns at marked numbers, and what one pentachoron and one triangle put into the matrix. Assumes nothing.
+use Prim.Native.Nat.{ℕ, ◌+◌}
+use mathlib.Core.Bool.{Bool, true, false}
+use mathlib.Core.List.{List, [], ◌∷◌, map}
+use mathlib.Core.Path.{◌≡◌, refl, ap, ◌∙◌}
+use lib.Ieee.{Float, nan}
 use lib.ListN.{length, get_or}
 use Rattle.lists.specs.Lists.{keep, gather, upto}
 use Rattle.complex.specs.Complex.{row_numbers}
 use Rattle.marks.specs.Marks.{marked_below}
+use Rattle.marks.proofs.Marking.{scatter-here, scatter-past}
 use Rattle.hinges.specs.declared.hinge.Hinge.{Hinge}
 use Rattle.hinges.specs.Hinges.{FaceLists, lengths_at, pent_lengths, hinges, hinge_in}
 use Rattle.hinges.specs.Action.{edges_at, tri_lengths}
+use Rattle.second_derivatives.specs.declared.matrix.FreeMatrix.{FreeMatrix}
 use Rattle.second_derivatives.specs.SecondDerivatives.{first_adds, second_adds}
 use Rattle.second_derivatives.specs.Parts.{places_in, placed, on_diagonal, off_diagonal}
+use Rattle.second_derivatives.specs.Matrix.{Scattered}
+use Rattle.second_derivatives.proofs.Scattering.{scattered-none}
 use Rattle.hessian.specs.Parts.{diagonal_at, first_at, second_at}
-use Rattle.hessian.specs.Steps.{if_marked}
 
 -- ---- marks
 
--- a number that is marked
-pub if-marked : (mark : Bool) (es : List (ℕ × Float)) → mark ≡ true → if_marked mark es ≡ es
-unfolding if_marked
-if-marked mark es e = rw e refl
+-- a loop over marked numbers has not begun
+pub scattered-unmarked : (f : Float → Float → Float) (event : ℕ → List (ℕ × Float)) (marks : List Bool) (m : FreeMatrix) → Scattered f (gather event (marked_below 0 marks)) m m
+unfolding marked_below keep upto gather
+scattered-unmarked f event marks m = scattered-none f m
 
--- one that is not
-pub if-not-marked : (mark : Bool) (es : List (ℕ × Float)) → mark ≡ false → if_marked mark es ≡ []
-unfolding if_marked
-if-not-marked mark es e = rw e refl
+module _ (f : Float → Float → Float) (event : ℕ → List (ℕ × Float)) (marks : List Bool) (t : ℕ) (old now : FreeMatrix) (was : Scattered f (gather event (marked_below t marks)) old now) where
+  -- the turn of a marked number
+  pub scattered-here : get_or marks t false ≡ true → (es : List (ℕ × Float)) → es ≡ event t → (new : FreeMatrix) → Scattered f es now new → Scattered f (gather event (marked_below (t + 1) marks)) old new
+  scattered-here m es e new is =
+      record {
+        free_edges = is.free_edges ∙ was.free_edges;
+        lent = is.lent ∙ was.lent;
+        entries = scatter-here nan f event marks t old.entries.now now.entries.now was.entries m es e new.entries.now is.entries;
+      }
 
-gather-kept : {A B : Type 0} (f : A → List B) (q : A → Bool) (xs : List A) → gather (λ x. cond (q x) (f x) []) xs ≡ gather f (keep q xs)
-unfolding gather keep
-gather-kept f q [] = refl
-gather-kept {A} {B} f q (x ∷ xs) = go (q x) (gather-kept f q xs)
-  where
-    go : (b : Bool) → gather (λ x. cond (q x) (f x) []) xs ≡ gather f (keep q xs) → cond b (f x) [] ++ gather (λ x. cond (q x) (f x) []) xs ≡ gather f (cond b (x ∷ keep q xs) (keep q xs))
-    go true r = ap (λ (l : List B). f x ++ l) r
-    go false r = r
+  -- and of another
+  pub scattered-past : get_or marks t false ≡ false → Scattered f (gather event (marked_below (t + 1) marks)) old now
+  scattered-past m = record { free_edges = was.free_edges; lent = was.lent; entries = scatter-past nan f event marks t old.entries.now now.entries.now was.entries m }
 
--- a loop over all numbers that asks for each mark
-pub marked_events : (event : ℕ → List (ℕ × Float)) (n : ℕ) (marks : List Bool) → gather (λ t. if_marked (get_or marks t false) (event t)) (upto n) ≡ gather event (marked_below n marks)
-unfolding if_marked marked_below
-marked_events event n marks = gather-kept event (λ t. get_or marks t false) (upto n)
+-- ---- single addends
+
+-- one of each
+pub gather-ones : {A B : Type 0} (f : A → B) (xs : List A) → gather (λ x. f x ∷ []) xs ≡ map f xs
+unfolding gather
+gather-ones f [] = refl
+gather-ones f (x ∷ xs) = ap (λ l. f x ∷ l) (gather-ones f xs)
 
 -- ---- a pentachoron and a triangle
 

@@ -1,5 +1,5 @@
--- What the loops of the local Hessian leave: events of marked numbers, and the sums on the diagonal. Definitions only.
-use Rattle.std.specs.Prelude.{ℕ, ◌+◌, ◌*◌, cond, Bool, List, [], map, Float, length, get_or, replicate}
+-- What the loops of the local Hessian leave: the sums on the diagonal. Definitions only.
+use Rattle.std.specs.Prelude.{ℕ, ◌+◌, ◌*◌, List, map, Float, length, get_or, replicate}
 use Rattle.std.specs.Float.{nan}
 use Rattle.floats.specs.Ops.{◌⊕◌, zero}
 use Rattle.lists.specs.Lists.{gather, upto}
@@ -7,10 +7,6 @@ use Rattle.lists.specs.Loops.{scatter}
 use Rattle.hinges.specs.Hinges.{FaceLists}
 use Rattle.hinges.specs.Local.{local_triangles}
 use Rattle.hessian.specs.Parts.{diagonal_at}
-
--- the events of a number if it is marked
-unfoldable pub if_marked : Bool → List (ℕ × Float) → List (ℕ × Float)
-if_marked mark events = cond mark events []
 
 -- a sum before what an entry holds
 abbrev pub ahead : Float → Float → Float

@@ -1,5 +1,5 @@
 // The local Hessian as a matrix: what the pentachorons and triangles on free edges add, in their order.
-ghost use Rattle.std.specs.Prelude.{◌≡◌, true, ◌*◌, ◌≤◌, ◌<◌, length};
+ghost use Rattle.std.specs.Prelude.{◌≡◌, ◌*◌, ◌≤◌, ◌<◌, length};
 ghost use Rattle.std.specs.Float.{nan};
 ghost use Rattle.floats.specs.Ops.{◌⊕◌};
 ghost use Rattle.lists.specs.Lists.{gather, Once};
@@ -12,211 +12,169 @@ ghost use Rattle.hinges.specs.Hinges.{faces_of};
 ghost use Rattle.hinges.specs.Local.{local_triangles, local_pents};
 ghost use Rattle.hinges.specs.Parts.{IsPassable, IsMeasured};
 ghost use Rattle.second_derivatives.specs.Parts.{before};
+ghost use Rattle.second_derivatives.specs.Matrix.{Scattered};
 ghost use Rattle.hessian.specs.Hessian.{local_hessian};
 ghost use Rattle.hessian.specs.Parts.{diagonal_at, first_at, second_at};
-ghost use Rattle.hessian.specs.Steps.{if_marked, ahead, diagonal_events, diagonal_of};
+ghost use Rattle.hessian.specs.Steps.{ahead, diagonal_events, diagonal_of};
 
 use complex::{Complex, Incidence};
 use hinges::{hinge_at, pent_sq_lengths, tri_sq_lengths, zero_all};
 use incidence::{PentachoronNumber, TriangleNumber, pent_edge_indices, tri_edge_indices};
 use marks::{mark_pents, mark_tris};
-use second_derivatives::{add_first, add_second, places_of_ten, places_of_three};
+use second_derivatives::{FreeMatrix, add_first, add_second};
 
 // ---- the second term
 
-// What a pentachoron adds if it is marked.
-fn add_marked_pent(
-    complex: &Complex<'_>,
-    incidence: &Incidence<'_>,
-    sq_lengths: &[f64],
-    free_edges: &[u32],
+// What a pentachoron adds.
+fn add_pent<'a>(
+    complex: &Complex<'a>,
+    incidence: &Incidence<'a>,
+    sq_lengths: &'a [f64],
     fd_eps: f64,
-    mark: bool,
     pent: PentachoronNumber,
-    matrix: &mut [f64],
+    matrix: &mut FreeMatrix<'_, '_>,
 )
-    requires { IsPassable complex.now incidence.now (length sq_lengths.now)
-        × (pent.0 < complex.now.counts.pentachorons) × (length free_edges.now ≤ 81920) × (length free_edges.now * length free_edges.now ≤ length matrix.old) }
-    ensures { matrix.new ≡ scatter nan ◌⊕◌ (if_marked mark (second_at (faces_of complex.now) sq_lengths.now free_edges.now fd_eps pent.0)) matrix.old }
+    requires { IsPassable complex.now incidence.now (length sq_lengths.now) × (pent.0 < complex.now.counts.pentachorons) }
+    ensures { Scattered ◌⊕◌ (second_at (faces_of complex.now) sq_lengths.now matrix.old.free_edges.now fd_eps pent.0) matrix.old matrix.new }
 {
-    if !mark {
-        return;
-    }
     let own = pent_edge_indices(complex, incidence, pent);
     let s = pent_sq_lengths(own, sq_lengths);
-    let at = places_of_ten(free_edges, own);
-    add_second(free_edges.len(), &at, &s, fd_eps, matrix);
+    let at = matrix.places(own);
+    add_second(&at, &s, fd_eps, matrix);
 }
 
 // What all marked pentachorons add, in their order.
-fn add_marked_pents(
-    complex: &Complex<'_>,
-    incidence: &Incidence<'_>,
-    sq_lengths: &[f64],
-    free_edges: &[u32],
+fn add_pents<'a>(
+    complex: &Complex<'a>,
+    incidence: &Incidence<'a>,
+    sq_lengths: &'a [f64],
     marks: &[bool],
     fd_eps: f64,
-    matrix: &mut [f64],
+    matrix: &mut FreeMatrix<'_, '_>,
 )
-    requires { IsPassable complex.now incidence.now (length sq_lengths.now)
-        × (complex.now.counts.pentachorons ≤ length marks.now) × (length free_edges.now ≤ 81920) × (length free_edges.now * length free_edges.now ≤ length matrix.old) }
-    ensures { matrix.new ≡ scatter nan ◌⊕◌ (gather (second_at (faces_of complex.now) sq_lengths.now free_edges.now fd_eps) (marked_below complex.now.counts.pentachorons marks.now)) matrix.old }
+    requires { IsPassable complex.now incidence.now (length sq_lengths.now) × (complex.now.counts.pentachorons ≤ length marks.now) }
+    ensures { Scattered ◌⊕◌ (gather (second_at (faces_of complex.now) sq_lengths.now matrix.old.free_edges.now fd_eps) (marked_below complex.now.counts.pentachorons marks.now)) matrix.old matrix.new }
 {
-    let mut p = 0u32;
-    while (p as usize) < complex.counts.pentachorons {
-        add_marked_pent(
-            complex,
-            incidence,
-            sq_lengths,
-            free_edges,
-            fd_eps,
-            marks[p as usize],
-            PentachoronNumber(p),
-            matrix,
-        );
-        p += 1;
+    for p in 0..complex.counts.pentachorons {
+        if marks[p] {
+            let pent = PentachoronNumber(p as u32);
+            add_pent(complex, incidence, sq_lengths, fd_eps, pent, matrix);
+        }
     }
 }
 
 // What all pentachorons on free edges add.
-fn add_second_term(
-    complex: &Complex<'_>,
-    incidence: &Incidence<'_>,
-    sq_lengths: &[f64],
-    free_edges: &[u32],
+fn add_second_term<'a>(
+    complex: &Complex<'a>,
+    incidence: &Incidence<'a>,
+    sq_lengths: &'a [f64],
     fd_eps: f64,
-    matrix: &mut [f64],
+    matrix: &mut FreeMatrix<'a, '_>,
 )
     requires { IsPassable complex.now incidence.now (length sq_lengths.now)
         × (IsHolding (pents_of complex.now) (edges_of complex.now) complex.now.edge_to_pents)
-        × Below free_edges.now complex.now.counts.edges × (length free_edges.now ≤ 81920) × (length free_edges.now * length free_edges.now ≤ length matrix.old) }
-    ensures { matrix.new ≡ scatter nan ◌⊕◌ (gather (second_at (faces_of complex.now) sq_lengths.now free_edges.now fd_eps) (local_pents (faces_of complex.now) free_edges.now)) matrix.old }
+        × Below matrix.old.free_edges.now complex.now.counts.edges }
+    ensures { Scattered ◌⊕◌ (gather (second_at (faces_of complex.now) sq_lengths.now matrix.old.free_edges.now fd_eps) (local_pents (faces_of complex.now) matrix.old.free_edges.now)) matrix.old matrix.new }
 {
     let mut marks = [false; 8192];
-    mark_pents(complex, free_edges, &mut marks);
-    add_marked_pents(
-        complex, incidence, sq_lengths, free_edges, &marks, fd_eps, matrix,
-    );
+    mark_pents(complex, matrix.free_edges, &mut marks);
+    add_pents(complex, incidence, sq_lengths, &marks, fd_eps, matrix);
 }
 
 // ---- the first term
 
-// What a triangle adds if it is marked.
-fn add_marked_tri(
-    complex: &Complex<'_>,
-    incidence: &Incidence<'_>,
-    sq_lengths: &[f64],
-    free_edges: &[u32],
-    mark: bool,
+// What a triangle adds.
+fn add_tri<'a>(
+    complex: &Complex<'a>,
+    incidence: &Incidence<'a>,
+    sq_lengths: &'a [f64],
     tri: TriangleNumber,
     diagonal: &mut [f64],
-    matrix: &mut [f64],
+    matrix: &mut FreeMatrix<'_, '_>,
 )
     requires { IsMeasured complex.now incidence.now (length sq_lengths.now)
-        × (tri.0 < complex.now.counts.triangles) × (complex.now.counts.edges ≤ length diagonal.old) × (length free_edges.now ≤ 81920) × (length free_edges.now * length free_edges.now ≤ length matrix.old) }
-    ensures { (diagonal.new ≡ scatter nan ◌⊕◌ (if_marked mark (diagonal_at (faces_of complex.now) sq_lengths.now tri.0)) diagonal.old)
-        × (matrix.new ≡ scatter nan before (if_marked mark (first_at (faces_of complex.now) sq_lengths.now free_edges.now tri.0)) matrix.old) }
+        × (tri.0 < complex.now.counts.triangles) × (complex.now.counts.edges ≤ length diagonal.old) }
+    ensures diagonal { diagonal.new ≡ scatter nan ◌⊕◌ (diagonal_at (faces_of complex.now) sq_lengths.now tri.0) diagonal.old }
+    ensures others { Scattered before (first_at (faces_of complex.now) sq_lengths.now matrix.old.free_edges.now tri.0) matrix.old matrix.new }
 {
-    if !mark {
-        return;
-    }
     let own = tri_edge_indices(complex, incidence, tri);
     let hinge = hinge_at(complex, incidence, sq_lengths, tri);
     let s = tri_sq_lengths(own, sq_lengths);
-    let at = places_of_three(free_edges, own);
-    add_first(
-        free_edges.len(),
-        at,
-        own,
-        s,
-        hinge.deficit,
-        diagonal,
-        matrix,
-    );
+    let at = matrix.places(&[own.0.0, own.1.0, own.2.0]);
+    add_first(at, own, s, hinge.deficit, diagonal, matrix);
 }
 
 // What all marked triangles add, in their order.
-fn add_marked_tris(
-    complex: &Complex<'_>,
-    incidence: &Incidence<'_>,
-    sq_lengths: &[f64],
-    free_edges: &[u32],
+fn add_tris<'a>(
+    complex: &Complex<'a>,
+    incidence: &Incidence<'a>,
+    sq_lengths: &'a [f64],
     marks: &[bool],
     diagonal: &mut [f64],
-    matrix: &mut [f64],
+    matrix: &mut FreeMatrix<'_, '_>,
 )
     requires { IsMeasured complex.now incidence.now (length sq_lengths.now)
-        × (complex.now.counts.triangles ≤ length marks.now) × (complex.now.counts.edges ≤ length diagonal.old) × (length free_edges.now ≤ 81920) × (length free_edges.now * length free_edges.now ≤ length matrix.old) }
-    ensures { (diagonal.new ≡ scatter nan ◌⊕◌ (gather (diagonal_at (faces_of complex.now) sq_lengths.now) (marked_below complex.now.counts.triangles marks.now)) diagonal.old)
-        × (matrix.new ≡ scatter nan before (gather (first_at (faces_of complex.now) sq_lengths.now free_edges.now) (marked_below complex.now.counts.triangles marks.now)) matrix.old) }
+        × (complex.now.counts.triangles ≤ length marks.now) × (complex.now.counts.edges ≤ length diagonal.old) }
+    ensures diagonal { diagonal.new ≡ scatter nan ◌⊕◌ (gather (diagonal_at (faces_of complex.now) sq_lengths.now) (marked_below complex.now.counts.triangles marks.now)) diagonal.old }
+    ensures others { Scattered before (gather (first_at (faces_of complex.now) sq_lengths.now matrix.old.free_edges.now) (marked_below complex.now.counts.triangles marks.now)) matrix.old matrix.new }
 {
-    let mut t = 0u32;
-    while (t as usize) < complex.counts.triangles {
-        add_marked_tri(
-            complex,
-            incidence,
-            sq_lengths,
-            free_edges,
-            marks[t as usize],
-            TriangleNumber(t),
-            diagonal,
-            matrix,
-        );
-        t += 1;
+    for t in 0..complex.counts.triangles {
+        if marks[t] {
+            let tri = TriangleNumber(t as u32);
+            add_tri(complex, incidence, sq_lengths, tri, diagonal, matrix);
+        }
     }
 }
 
 // Each sum on the diagonal before what its entry holds.
-fn put_diagonal(free_edges: &[u32], diagonal: &[f64], matrix: &mut [f64])
-    requires { Below free_edges.now (length diagonal.now) × (length free_edges.now ≤ 81920) × (length free_edges.now * length free_edges.now ≤ length matrix.old) }
-    ensures { matrix.new ≡ scatter nan ahead (diagonal_events free_edges.now diagonal.now) matrix.old }
+fn put_diagonal(diagonal: &[f64], matrix: &mut FreeMatrix<'_, '_>)
+    requires { Below matrix.old.free_edges.now (length diagonal.now) }
+    ensures { Scattered ahead (diagonal_events matrix.old.free_edges.now diagonal.now) matrix.old matrix.new }
 {
+    let free_edges = matrix.free_edges;
     let n = free_edges.len();
-    let mut i = 0;
-    while i < n {
+    for i in 0..n {
         let k = i * n + i;
-        matrix[k] = diagonal[free_edges[i] as usize] + matrix[k];
-        i += 1;
+        matrix.entries[k] = diagonal[free_edges[i] as usize] + matrix.entries[k];
     }
 }
 
 // What all triangles on free edges add, before what the entries hold.
-fn add_first_term(
-    complex: &Complex<'_>,
-    incidence: &Incidence<'_>,
-    sq_lengths: &[f64],
-    free_edges: &[u32],
-    matrix: &mut [f64],
+fn add_first_term<'a>(
+    complex: &Complex<'a>,
+    incidence: &Incidence<'a>,
+    sq_lengths: &'a [f64],
+    matrix: &mut FreeMatrix<'a, '_>,
 )
     requires { IsMeasured complex.now incidence.now (length sq_lengths.now)
         × (IsHolding (triangles_of complex.now) (edges_of complex.now) complex.now.edge_to_tris)
-        × Below free_edges.now complex.now.counts.edges × (complex.now.counts.edges ≤ 81920) × (length free_edges.now ≤ 81920) × (length free_edges.now * length free_edges.now ≤ length matrix.old) }
-    ensures { matrix.new ≡ scatter nan ahead (diagonal_events free_edges.now (diagonal_of (faces_of complex.now) sq_lengths.now free_edges.now))
-        (scatter nan before (gather (first_at (faces_of complex.now) sq_lengths.now free_edges.now) (local_triangles (faces_of complex.now) free_edges.now)) matrix.old) }
+        × Below matrix.old.free_edges.now complex.now.counts.edges × (complex.now.counts.edges ≤ 81920) }
+    ensures lent { matrix.new.entries.ghost_name ≡ matrix.old.entries.ghost_name }
+    ensures entries { matrix.new.entries.now ≡ scatter nan ahead (diagonal_events matrix.old.free_edges.now (diagonal_of (faces_of complex.now) sq_lengths.now matrix.old.free_edges.now))
+        (scatter nan before (gather (first_at (faces_of complex.now) sq_lengths.now matrix.old.free_edges.now) (local_triangles (faces_of complex.now) matrix.old.free_edges.now)) matrix.old.entries.now) }
 {
     let mut marks = [false; 81920];
     let mut diagonal = [0.0; 81920];
-    mark_tris(complex, free_edges, &mut marks);
-    add_marked_tris(
+    mark_tris(complex, matrix.free_edges, &mut marks);
+    add_tris(
         complex,
         incidence,
         sq_lengths,
-        free_edges,
         &marks,
         &mut diagonal,
         matrix,
     );
-    put_diagonal(free_edges, &diagonal, matrix);
+    put_diagonal(&diagonal, matrix);
 }
 
 // ---- the whole
 
 // The entries of all pairs of free edges.
-pub fn write_hessian(
-    complex: &Complex<'_>,
-    incidence: &Incidence<'_>,
-    sq_lengths: &[f64],
-    free_edges: &[u32],
+pub fn write_hessian<'a>(
+    complex: &Complex<'a>,
+    incidence: &Incidence<'a>,
+    sq_lengths: &'a [f64],
+    free_edges: &'a [u32],
     fd_eps: f64,
     matrix: &mut [f64],
 )
@@ -228,6 +186,10 @@ pub fn write_hessian(
 {
     let n = free_edges.len();
     zero_all(n * n, matrix);
-    add_second_term(complex, incidence, sq_lengths, free_edges, fd_eps, matrix);
-    add_first_term(complex, incidence, sq_lengths, free_edges, matrix);
+    let mut lent = FreeMatrix {
+        free_edges,
+        entries: matrix,
+    };
+    add_second_term(complex, incidence, sq_lengths, fd_eps, &mut lent);
+    add_first_term(complex, incidence, sq_lengths, &mut lent);
 }

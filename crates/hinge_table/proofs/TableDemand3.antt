@@ -1,4 +1,4 @@
--- Demand 3 for a table that is a list of records, from the contract of the retouch on such a table. Assumes nothing.
+-- What a retouch leaves in a table that is a list of records, from the contract of the retouch on such a table. Assumes nothing.
 use Rattle.refusals.specs.Refusals.{Done, Outcome}
 use Rattle.std.specs.Prelude.{Err}
 use Prim.Native.Nat.{ℕ, ◌<◌}
@@ -40,7 +40,7 @@ module _ (c : Counts) (l : Lists) (ls : List Float) (e : ℕ) (x : Float) (table
   abbrev checks : Outcome
   checks = lengths_check_of c (length ls) (edge_check_of c e (room_check_of (short_records c (length table))))
 
-  -- a call that answers meets the demand
+  -- a call that answers leaves what `Demand3` says
   pub table_demand3 : TableRetouched (built_check_of c l checks) F ls e x table r ls' table' → r ≡ Done → Demand3 entry_of F ls e x (hinge_in table) ls' (hinge_in table')
   table_demand3 left done =
       let el : ls' ≡ set ls e x = left.lengths ∙ (rw done refl) in

@@ -45,3 +45,10 @@ worked-refused says is = rw is (record { answered = sym says; records = refl })
 -- and where a retouch is
 pub retouched-refused : {o : Outcome} {F : FaceLists} {ls : List Float} {e : ℕ} {x : Float} {table : List Hinge} {r : Outcome} {q : Refusal} → o ≡ Err q → r ≡ Err q → TableRetouched o F ls e x table r ls table
 retouched-refused says is = rw is (record { answered = sym says; lengths = refl; records = refl })
+
+-- what holds of checks holds of others that say the same
+pub worked-same : {o u : Outcome} {F : FaceLists} {ls : List Float} {table : List Hinge} {r : Outcome} {table' : List Hinge} → o ≡ u → TableWorked o F ls table r table' → TableWorked u F ls table r table'
+worked-same s t = record { answered = t.answered ∙ s; records = t.records }
+
+pub retouched-same : {o u : Outcome} {F : FaceLists} {ls : List Float} {e : ℕ} {x : Float} {table : List Hinge} {r : Outcome} {ls' : List Float} {table' : List Hinge} → o ≡ u → TableRetouched o F ls e x table r ls' table' → TableRetouched u F ls e x table r ls' table'
+retouched-same s t = record { answered = t.answered ∙ s; lengths = t.lengths; records = t.records }

@@ -8,13 +8,11 @@ ghost use Rattle.lists.specs.Writes.{writes};
 ghost use Rattle.lists.specs.Rows.{over};
 ghost use Rattle.complex.specs.Lent.{lists_of};
 ghost use Rattle.hinges.specs.Hinges.{faces_of, hinges, hinge_in};
-ghost use Rattle.hinges.specs.Parts.{IsMeasured};
 ghost use Rattle.calls.specs.Calls.{built_check_of, lengths_check_of, room_check_of};
 ghost use Rattle.retouch.specs.Retouch.{edge_check_of};
 ghost use Rattle.hinge_table.specs.Table.{short_records, TableWorked, TableRetouched};
 
-use calls::{BuiltComplex, check_lengths, check_room};
-use comparison::is_built_noting;
+use calls::{BuiltComplex, check_lengths, check_noting, check_room};
 use complex::{Complex, Incidence};
 pub use hinges::Hinge;
 use hinges::hinge_at;
@@ -25,18 +23,30 @@ use retouch::{check_edge, list_touched};
 // ---- all records
 
 // Writes the records of all triangles.
-fn write_all<'a>(
-    complex: &Complex<'a>,
-    incidence: &Incidence<'a>,
-    sq_lengths: &'a [f64],
-    table: &mut [Hinge],
-)
-    requires { IsMeasured complex.now incidence.now (length sq_lengths.now) × (complex.now.counts.triangles ≤ length table.old) }
-    ensures { table.new ≡ over (hinges (faces_of complex.now) sq_lengths.now) table.old }
+fn write_all(built: &BuiltComplex<'_>, sq_lengths: &[f64], table: &mut [Hinge])
+    requires { (length sq_lengths.now ≡ built.now.complex.counts.edges) × (built.now.complex.counts.triangles ≤ length table.old) }
+    ensures { table.new ≡ over (hinges (faces_of built.now.complex) sq_lengths.now) table.old }
 {
-    for t in 0..complex.counts.triangles {
-        table[t] = hinge_at(complex, incidence, sq_lengths, TriangleNumber(t as u32));
+    for t in 0..built.complex.counts.triangles {
+        let tri = TriangleNumber(t as u32);
+        table[t] = hinge_at(&built.complex, &built.incidence, sq_lengths, tri);
     }
+}
+
+// All hinges of a built complex.
+fn deficit_angles_of(
+    built: &BuiltComplex<'_>,
+    sq_lengths: &[f64],
+    table: &mut [Hinge],
+) -> Result<(), Refusal>
+    ensures { TableWorked (lengths_check_of built.now.complex.counts (length sq_lengths.now) (room_check_of (short_records built.now.complex.counts (length table.old))))
+        (faces_of built.now.complex) sq_lengths.now table.old result table.new }
+{
+    let counts = built.complex.counts;
+    check_lengths(counts, sq_lengths.len())?;
+    check_room(table.len() < counts.triangles)?;
+    write_all(built, sq_lengths, table);
+    Ok(())
 }
 
 // All hinges: each triangle's record is worked out anew and written at its place. The table may be longer than there are triangles;
@@ -52,9 +62,7 @@ pub fn lorentzian_deficit_angles(
 {
     let mut pent_edges = [0u32; 81920];
     let mut pent_tris = [0u32; 81920];
-    if !is_built_noting(complex, &mut pent_edges, &mut pent_tris) {
-        return Err(Refusal::NotBuilt);
-    }
+    check_noting(complex, &mut pent_edges, &mut pent_tris)?;
     let incidence = Incidence {
         pent_edges: &pent_edges,
         pent_tris: &pent_tris,
@@ -63,30 +71,43 @@ pub fn lorentzian_deficit_angles(
         complex: *complex,
         incidence,
     };
-    let counts = complex.counts;
-    check_lengths(counts, sq_lengths.len())?;
-    check_room(table.len() < counts.triangles)?;
-    write_all(&built.complex, &built.incidence, sq_lengths, table);
-    Ok(())
+    deficit_angles_of(&built, sq_lengths, table)
 }
 
 // ---- the retouch
 
 // Writes the records of the triangles of a list, each at its own place.
-fn write_records<'a>(
-    complex: &Complex<'a>,
-    incidence: &Incidence<'a>,
-    sq_lengths: &'a [f64],
-    tris: &[u32],
-    table: &mut [Hinge],
-)
-    requires { IsMeasured complex.now incidence.now (length sq_lengths.now)
-        × Below tris.now complex.now.counts.triangles × (complex.now.counts.triangles ≤ length table.old) }
-    ensures { table.new ≡ writes (hinge_in (hinges (faces_of complex.now) sq_lengths.now)) tris.now table.old }
+fn write_records(built: &BuiltComplex<'_>, sq_lengths: &[f64], tris: &[u32], table: &mut [Hinge])
+    requires { (length sq_lengths.now ≡ built.now.complex.counts.edges)
+        × Below tris.now built.now.complex.counts.triangles × (built.now.complex.counts.triangles ≤ length table.old) }
+    ensures { table.new ≡ writes (hinge_in (hinges (faces_of built.now.complex) sq_lengths.now)) tris.now table.old }
 {
     for &tri in tris {
-        table[tri as usize] = hinge_at(complex, incidence, sq_lengths, TriangleNumber(tri));
+        let number = TriangleNumber(tri);
+        table[tri as usize] = hinge_at(&built.complex, &built.incidence, sq_lengths, number);
     }
+}
+
+// The retouch of a built complex.
+fn retouch_of(
+    built: &BuiltComplex<'_>,
+    sq_lengths: &mut [f64],
+    edge: EdgeNumber,
+    sq_length: f64,
+    table: &mut [Hinge],
+) -> Result<(), Refusal>
+    ensures { TableRetouched (lengths_check_of built.now.complex.counts (length sq_lengths.old) (edge_check_of built.now.complex.counts edge.0 (room_check_of (short_records built.now.complex.counts (length table.old)))))
+        (faces_of built.now.complex) sq_lengths.old edge.0 sq_length table.old result sq_lengths.new table.new }
+{
+    let counts = built.complex.counts;
+    check_lengths(counts, sq_lengths.len())?;
+    check_edge(counts, edge)?;
+    check_room(table.len() < counts.triangles)?;
+    let mut tris = [0u32; 81920];
+    let count = list_touched(&built.complex, &built.incidence, edge, &mut tris);
+    sq_lengths[edge.0 as usize] = sq_length;
+    write_records(built, sq_lengths, &tris[..count], table);
+    Ok(())
 }
 
 // The retouch: stores a new squared length at its edge and works out anew each triangle of each pentachoron that contains the edge,
@@ -105,9 +126,7 @@ pub fn retouch(
 {
     let mut pent_edges = [0u32; 81920];
     let mut pent_tris = [0u32; 81920];
-    if !is_built_noting(complex, &mut pent_edges, &mut pent_tris) {
-        return Err(Refusal::NotBuilt);
-    }
+    check_noting(complex, &mut pent_edges, &mut pent_tris)?;
     let incidence = Incidence {
         pent_edges: &pent_edges,
         pent_tris: &pent_tris,
@@ -116,19 +135,5 @@ pub fn retouch(
         complex: *complex,
         incidence,
     };
-    let counts = complex.counts;
-    check_lengths(counts, sq_lengths.len())?;
-    check_edge(counts, edge)?;
-    check_room(table.len() < counts.triangles)?;
-    let mut tris = [0u32; 81920];
-    let count = list_touched(&built.complex, &built.incidence, edge, &mut tris);
-    sq_lengths[edge.0 as usize] = sq_length;
-    write_records(
-        &built.complex,
-        &built.incidence,
-        sq_lengths,
-        &tris[..count],
-        table,
-    );
-    Ok(())
+    retouch_of(&built, sq_lengths, edge, sq_length, table)
 }

@@ -1,4 +1,4 @@
--- Demand 3: what a retouch leaves. It is proved for tables of any form, and then for the two plain lists of `retouch::retouch` and of its core from their contract. Assumes nothing.
+-- What a retouch leaves. It is proved for tables of any form, and then for the two plain lists of `retouch::retouch` and of its core from their contract. Assumes nothing.
 use Rattle.refusals.specs.Refusals.{Done, Outcome}
 use Rattle.std.specs.Prelude.{Err, Some, None}
 use Prim.Native.Nat.{ℕ, zero, suc, ◌≤◌, ◌<◌}
@@ -118,7 +118,7 @@ module _ {o : Outcome} {F : FaceLists} {ls : List Float} {e : ℕ} {x : Float} {
   abbrev byte : ℕ → ℕ
   byte t = kind_number (anew F ls e x t).kind
 
-  -- a call that answers meets the demand, where its checks saw to lengths, edge and room
+  -- a call that answers leaves what `Demand3` says, where its checks saw to lengths, edge and room
   lists_demand3 : Simplices F.pents F.triangles → Wide 5 F.pents → length ls ≡ length F.edges → e < length F.edges
       → length F.triangles ≤ length ds → length F.triangles ≤ length ks → r ≡ Done → Demand3 entry_in F ls e x (both_at ds ks) ls' (both_at ds' ks')
   lists_demand3 ok five many known room-d room-k done =

@@ -11,6 +11,7 @@ use lib.Dec.{ltb}
 use lib.Ieee.{Float}
 use lib.ListN.{length, get_or, take, replicate}
 use lib.Seq.{take-suc}
+use Rattle.std.proofs.lemmas.List.{length-take-le}
 use borrow.Author.Tests.{ltb-true, ltb-false}
 use Rattle.refusals.specs.declared.Refusal.{Refusal}
 use Rattle.refusals.specs.declared.Refusal.TheVariants.{EdgeTooLarge}
@@ -30,10 +31,11 @@ use Rattle.comparison.proofs.BuiltComplex.{built-says, built-edge-to-pents}
 use Rattle.marks.specs.Marks.{listed, marked, marked_below}
 use Rattle.marks.proofs.Marking.{marked-listed, marked-most}
 use Rattle.hinges.specs.Hinges.{FaceLists, faces_of}
-use Rattle.hinges.specs.Parts.{Found, Measured}
+use Rattle.hinges.specs.Parts.{Found, IsMeasured}
 use Rattle.hinges.proofs.PentachoronSteps.{numbers-below}
-use Rattle.calls.specs.Calls.{BuiltWith, lengths_check_of, room_check_of, short_table}
-use Rattle.calls.proofs.BuiltCalls.{built-measured, lengths-passed, lengths-decided, room-passed, done-not-refused}
+use Rattle.calls.specs.declared.built.BuiltComplex.{BuiltComplex}
+use Rattle.calls.specs.Calls.{lengths_check_of, room_check_of, short_table}
+use Rattle.calls.proofs.BuiltCalls.{measured, lengths-passed, lengths-decided, room-passed, done-not-refused}
 use Rattle.retouch.specs.Retouch.{around, touched, edge_check_of, Retouched}
 
 -- ---- the triangles of pentachorons
@@ -130,35 +132,45 @@ module _ (c : Counts) (n e : ℕ) (others : Outcome) (lengths : lengths_check_of
   others-third edge = lengths-decided c n (edge_check_of c e others) lengths ∙ edge-decided c e others edge
 
 -- what a retouch of a built complex with n lengths has where the checks of lengths and edge let it pass
-pub record Passed (x : Complex) (pe pt : List ℕ) (n e : ℕ) : Type 0 where
-  pub measured : (m : ℕ) → m ≡ n → Measured x.counts x.pents.now x.edges.now x.triangles.now x.tri_to_pents.items.now x.tri_to_pents.starts.now pe pt m
-  pub on_pents : IsHolding (pents_of x) (edges_of x) x.edge_to_pents
-  pub counted : n ≡ x.counts.edges
-  pub inside : e < x.counts.edges
-  pub few : x.counts.triangles ≤ 81920
+pub record Passed (b : BuiltComplex) (n e : ℕ) : Type 0 where
+  pub measured : IsMeasured b.complex b.incidence n
+  pub on_pents : IsHolding (pents_of b.complex) (edges_of b.complex) b.complex.edge_to_pents
+  pub counted : n ≡ b.complex.counts.edges
+  pub inside : e < b.complex.counts.edges
 
 -- it has them
-pub retouch-passed : (x : Complex) {pe pt : List ℕ} (n e : ℕ) → BuiltWith x.counts (lists_of x) pe pt → lengths_check_of x.counts n Done ≡ Done → edge_check_of x.counts e Done ≡ Done → Passed x pe pt n e
-retouch-passed x {pe} {pt} n e w lengths edge =
+pub retouch-passed : (b : BuiltComplex) (n e : ℕ) → lengths_check_of b.complex.counts n Done ≡ Done → edge_check_of b.complex.counts e Done ≡ Done → Passed b n e
+retouch-passed b n e lengths edge =
+    let x = b.complex in
     let counted = (lengths-passed x.counts n Done lengths).0 in
     record {
-      measured = λ m k. built-measured x.counts (lists_of x) pe pt m w (k ∙ counted);
-      on_pents = built-edge-to-pents x.counts (lists_of x) (said (built-says x.counts (lists_of x)) w.built);
+      measured = measured b n counted;
+      on_pents = built-edge-to-pents x.counts (lists_of x) (said (built-says x.counts (lists_of x)) b.built_with.built);
       counted = counted;
       inside = (edge-passed x.counts e Done edge).0;
-      few = (built-measured x.counts (lists_of x) pe pt n w counted).few;
     }
 
 -- ---- the lists that are lent
 
--- the triangles that were listed
-pub listed-touched : (x : Complex) (e count : ℕ) (old tris : List ℕ) → count ≡ length (touched (faces_of x) e) → tris ≡ over (touched (faces_of x) e) old → take count tris ≡ touched (faces_of x) e
-listed-touched x e count old tris many is = ap (take count) is ∙ over-take (touched (faces_of x) e) old count (sym many)
+-- the scratch in which the touched triangles were listed: they are its beginning, there is room for them, and each is a triangle
+pub record Listed (x : Complex) (e count : ℕ) (tris : List ℕ) : Type 0 where
+  pub own : take count tris ≡ touched (faces_of x) e
+  pub room : count ≤ length tris
+  pub many : count ≡ length (take count tris)
+  pub below : Below (take count tris) x.counts.triangles
 
--- scratch for one number a triangle has room for them
-pub touched-room : (x : Complex) (e count : ℕ) (tris : List ℕ) → count ≡ length (touched (faces_of x) e) → x.counts.triangles ≤ length tris → count ≤ length tris
-touched-room x e count tris many room = omega (arith, touched-most x e)
+-- it is so after they were listed in scratch with a place for each triangle
+pub listed-touched : (x : Complex) (e count : ℕ) (old tris : List ℕ) → x.counts.triangles ≤ length old → length tris ≡ length old → count ≡ length (touched (faces_of x) e) → tris ≡ over (touched (faces_of x) e) old
+    → Listed x e count tris
+listed-touched x e count old tris place same many is =
+    let own : take count tris ≡ touched (faces_of x) e = ap (take count) is ∙ over-take (touched (faces_of x) e) old count (sym many) in
+    let room : count ≤ length tris = omega (arith, touched-most x e) in
+    record { own = own; room = room; many = sym (length-take-le count tris room); below = rw own (touched-below x e) }
 
 -- what a retouch leaves where it is refused
 pub retouched-refused : {o : Outcome} {F : FaceLists} {ls : List Float} {e : ℕ} {x : Float} {ds : List Float} {ks : List ℕ} {r : Outcome} {q : Refusal} → o ≡ Err q → r ≡ Err q → Retouched o F ls e x ds ks r ls ds ks
 retouched-refused says is = rw is (record { answered = sym says; lengths = refl; deficits = refl; kinds = refl })
+
+-- what holds of checks holds of others that say the same
+pub retouched-same : {o u : Outcome} {F : FaceLists} {ls : List Float} {e : ℕ} {x : Float} {ds : List Float} {ks : List ℕ} {r : Outcome} {ls' ds' : List Float} {ks' : List ℕ} → o ≡ u → Retouched o F ls e x ds ks r ls' ds' ks' → Retouched u F ls e x ds ks r ls' ds' ks'
+retouched-same s t = record { answered = t.answered ∙ s; lengths = t.lengths; deficits = t.deficits; kinds = t.kinds }

@@ -1,3 +1,3 @@
--- The definitions that the retouch's contract and demand 3 cite.
+-- The definitions that the retouch's contract and theorem cite.
 pub mod Retouch
 pub mod Demand3

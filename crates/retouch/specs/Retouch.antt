@@ -38,7 +38,7 @@ abbrev pub after : {A : Type 0} → Outcome → List A → List A → List A
 after (Ok u) new old = new
 after (Err r) new old = old
 
--- 'Retouch' of 01: the new length stands at its edge, and each triangle of each pentachoron that contains the edge is worked out anew.
+-- A retouch: the new length stands at its edge, and each triangle of each pentachoron that contains the edge is worked out anew.
 -- The answer r of checks that say o, and the lists of lengths, deficits and kinds after the call
 pub record Retouched (o : Outcome) (F : FaceLists) (ls : List Float) (e : ℕ) (x : Float) (ds : List Float) (ks : List ℕ) (r : Outcome) (ls' ds' : List Float) (ks' : List ℕ) : Type 0 where
   pub answered : r ≡ o

@@ -11,8 +11,7 @@ ghost use Rattle.hinges.specs.Hinges.{faces_of};
 ghost use Rattle.calls.specs.Calls.{built_check_of, lengths_check_of, room_check_of, short_table};
 ghost use Rattle.retouch.specs.Retouch.{edge_check_of, Retouched};
 
-use calls::{BuiltComplex, check_lengths, check_room};
-use comparison::is_built_noting;
+use calls::{BuiltComplex, check_lengths, check_noting, check_table};
 use complex::{Complex, Incidence};
 use incidence::EdgeNumber;
 use records::write_records;
@@ -34,18 +33,11 @@ pub fn retouch_built(
     let counts = built.complex.counts;
     check_lengths(counts, sq_lengths.len())?;
     check_edge(counts, edge)?;
-    check_room(deficits.len() < counts.triangles || kinds.len() < counts.triangles)?;
+    check_table(counts, deficits.len(), kinds.len())?;
     let mut tris = [0u32; 81920];
     let count = list_touched(&built.complex, &built.incidence, edge, &mut tris);
     sq_lengths[edge.0 as usize] = sq_length;
-    write_records(
-        &built.complex,
-        &built.incidence,
-        sq_lengths,
-        &tris[..count],
-        deficits,
-        kinds,
-    );
+    write_records(built, sq_lengths, &tris[..count], deficits, kinds);
     Ok(())
 }
 
@@ -66,9 +58,7 @@ pub fn retouch(
 {
     let mut pent_edges = [0u32; 81920];
     let mut pent_tris = [0u32; 81920];
-    if !is_built_noting(complex, &mut pent_edges, &mut pent_tris) {
-        return Err(Refusal::NotBuilt);
-    }
+    check_noting(complex, &mut pent_edges, &mut pent_tris)?;
     let incidence = Incidence {
         pent_edges: &pent_edges,
         pent_tris: &pent_tris,

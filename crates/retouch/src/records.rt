@@ -4,30 +4,33 @@ ghost use Rattle.lists.specs.Groups.{Below};
 ghost use Rattle.lists.specs.Writes.{writes};
 ghost use Rattle.lorentzian.specs.Dihedral.{kind_number};
 ghost use Rattle.hinges.specs.Hinges.{faces_of, hinges, hinge_in};
-ghost use Rattle.hinges.specs.Parts.{IsMeasured};
 
-use complex::{Complex, Incidence};
-use hinges::hinge_at;
+use calls::BuiltComplex;
+use hinges::{byte_of, hinge_at};
 use incidence::TriangleNumber;
 
 // Writes the deficits and kinds of the triangles of a list, each at its own place. A table of records is written by a loop that is the
 // same but for what it stores; a trait of such stores, with its law and two impls, would be longer than both loops.
-pub fn write_records<'a>(
-    complex: &Complex<'a>,
-    incidence: &Incidence<'a>,
-    sq_lengths: &'a [f64],
+pub fn write_records(
+    built: &BuiltComplex<'_>,
+    sq_lengths: &[f64],
     tris: &[u32],
     deficits: &mut [f64],
     kinds: &mut [u8],
 )
-    requires { IsMeasured complex.now incidence.now (length sq_lengths.now)
-        × Below tris.now complex.now.counts.triangles × (complex.now.counts.triangles ≤ length deficits.old) × (complex.now.counts.triangles ≤ length kinds.old) }
-    ensures { (deficits.new ≡ writes (λ t. (hinge_in (hinges (faces_of complex.now) sq_lengths.now) t).deficit) tris.now deficits.old)
-        × (kinds.new ≡ writes (λ t. kind_number (hinge_in (hinges (faces_of complex.now) sq_lengths.now) t).kind) tris.now kinds.old) }
+    requires { (length sq_lengths.now ≡ built.now.complex.counts.edges)
+        × Below tris.now built.now.complex.counts.triangles × (built.now.complex.counts.triangles ≤ length deficits.old) × (built.now.complex.counts.triangles ≤ length kinds.old) }
+    ensures { (deficits.new ≡ writes (λ t. (hinge_in (hinges (faces_of built.now.complex) sq_lengths.now) t).deficit) tris.now deficits.old)
+        × (kinds.new ≡ writes (λ t. kind_number (hinge_in (hinges (faces_of built.now.complex) sq_lengths.now) t).kind) tris.now kinds.old) }
 {
     for &tri in tris {
-        let hinge = hinge_at(complex, incidence, sq_lengths, TriangleNumber(tri));
+        let hinge = hinge_at(
+            &built.complex,
+            &built.incidence,
+            sq_lengths,
+            TriangleNumber(tri),
+        );
         deficits[tri as usize] = hinge.deficit;
-        kinds[tri as usize] = hinge.kind.number();
+        kinds[tri as usize] = byte_of(Some(hinge.kind));
     }
 }

@@ -15,6 +15,7 @@ use marks::{count_marked, list_marked, mark_all};
 use refusals::Refusal;
 
 // 9 where there is no edge of that number.
+#[tactic(auto, unfolding(crate::specs::Retouch::edge_check_of))]
 pub fn check_edge(counts: Counts, edge: EdgeNumber) -> Result<(), Refusal>
     ensures { result ≡ edge_check_of counts edge.0 Done }
 {

@@ -1,45 +1,59 @@
 -- Places of edges among the free ones, and addends put into n rows of n, one after the other. Assumes nothing.
-use Prim.Native.Nat.{ℕ, suc, ◌+◌, ◌*◌, ◌≤◌, ◌<◌}
-use mathlib.Core.Bool.{Bool, true, false, cond}
-use mathlib.Core.List.{List, [], ◌∷◌, ◌++◌, map, append-nil}
+use Rattle.std.specs.Prelude.{Option, Some, None}
+use Prim.Native.Nat.{ℕ, zero, suc, ◌+◌, ◌*◌, ◌≤◌, ◌<◌}
+use mathlib.Core.Bool.{Bool, true, false, not, cond, ◌&&◌}
+use mathlib.Core.List.{List, [], ◌∷◌, ◌++◌, map}
 use mathlib.Core.Path.{◌≡◌, refl, sym, ap, ◌∙◌}
 use native.Mathlib.Nat.{mul-le-mul}
-use native.Mathlib.Numerals.{add-one}
 use native.Mathlib.Omega.{arith}
 use lib.Arith.{digits_lt}
+use lib.Dec.{eqb, ltb}
 use lib.Ieee.{Float, nan, neg, lt}
-use lib.ListN.{length, get_or, drop, drop_of_length-le}
-use lib.Seq.{drop-cons}
+use lib.ListN.{length, get_or}
+use Rattle.std.specs.List.{position_or_len}
+use Rattle.std.specs.Option.{unwrap_or}
 use Rattle.floats.specs.Ops.{◌⊗◌}
 use Rattle.floats.specs.Methods.{abs_of}
 use Rattle.lists.specs.Lists.{gather, upto}
-use Rattle.lists.specs.Loops.{scatter}
-use Rattle.lists.proofs.Tests.{eqb-says, ltb-says, passes, fails, both-says}
+use Rattle.lists.proofs.Tests.{Says, pass, fail, ltb-says, passes, fails, both-says}
 use Rattle.lists.proofs.Elements.{gather_append, gather-map}
-use Rattle.lists.proofs.Loops.{scatter-append}
 use Rattle.hinges.specs.Action.{area_limit}
 use Rattle.second_derivatives.specs.SecondDerivatives.{row_of, slope_row}
-use Rattle.second_derivatives.specs.Parts.{index_of, placed_in, placed}
+use Rattle.second_derivatives.specs.Parts.{index_of, place_of, placed_in, placed}
 
 -- ---- the search for a place
 
-module _ (e : ℕ) (xs : List ℕ) (k : ℕ) (p : index_of e xs ≡ k + index_of e (drop k xs)) where
-  -- the edge is found
-  pub index-here : k < length xs → get_or xs k 0 ≡ e → k ≡ index_of e xs
-  unfolding index_of
-  index-here h q = let z : index_of e (drop k xs) ≡ 0 = rw (drop-cons xs k 0 h, passes (eqb-says (get_or xs k 0) e) q) refl in omega (arith, p, z)
+-- the number of elements before the first one that is looked for
+pub index-position : (e : ℕ) (xs : List ℕ) → position_or_len (λ x. eqb x e) xs ≡ index_of e xs
+unfolding index_of
+index-position e [] = refl
+index-position e (x ∷ xs) = go (eqb x e) (index-position e xs)
+  where
+    go : (b : Bool) → position_or_len (λ x. eqb x e) xs ≡ index_of e xs → cond (not b) (1 + position_or_len (λ x. eqb x e) xs) 0 ≡ cond b zero (suc (index_of e xs))
+    go true r = refl
+    go false r = omega (arith, r)
 
-  -- it is not found yet
-  pub index-next : k < length xs → (get_or xs k 0 ≡ e → ⊥) → index_of e xs ≡ (k + 1) + index_of e (drop (k + 1) xs)
-  unfolding index_of
-  index-next h n =
-      let z : index_of e (drop k xs) ≡ suc (index_of e (drop (suc k) xs)) = rw (drop-cons xs k 0 h, fails (eqb-says (get_or xs k 0) e) n) refl in
-      rw (add-one k) (omega (arith, p, z))
+-- it is at most the number of all
+pub index-within : (e : ℕ) (xs : List ℕ) → index_of e xs ≤ length xs
+unfolding index_of
+index-within e [] = omega arith
+index-within e (x ∷ xs) = go (eqb x e) (index-within e xs)
+  where
+    go : (b : Bool) → index_of e xs ≤ length xs → cond b zero (suc (index_of e xs)) ≤ suc (length xs)
+    go true r = omega arith
+    go false r = omega (arith, r)
 
-  -- it is not there
-  pub index-none : length xs ≤ k → k ≡ index_of e xs
-  unfolding index_of
-  index-none h = let z : index_of e (drop k xs) ≡ 0 = rw (drop_of_length-le xs h) refl in omega (arith, p, z)
+-- what a search for it answers, and how many elements there are where it finds nothing
+pub index-found : (e : ℕ) (xs : List ℕ) (found : Option ℕ) (r : ℕ)
+    → found ≡ cond (ltb (position_or_len (λ x. eqb x e) xs) (length xs)) (Some (position_or_len (λ x. eqb x e) xs)) None → r ≡ unwrap_or found (length xs) → r ≡ index_of e xs
+index-found e xs found r f u = u ∙ ap (λ o. unwrap_or o (length xs)) f ∙ go (ltb-says (position_or_len (λ x. eqb x e) xs) (length xs)) ∙ index-position e xs
+  where
+    p : ℕ
+    p = position_or_len (λ x. eqb x e) xs
+
+    go : {b : Bool} → Says (p < length xs) b → unwrap_or (cond b (Some p) None) (length xs) ≡ p
+    go (pass h) = refl
+    go (fail n) = omega (arith, index-position e xs, index-within e xs)
 
 -- ---- one addend
 
@@ -56,10 +70,28 @@ pub placed-there : (n i j : ℕ) (x : Float) → i < n → j < n → placed_in n
 unfolding placed_in
 placed-there n i j x h k = rw (passes (both-says (ltb-says i n) (ltb-says j n)) (h, k)) refl
 
+-- the same by the place that was found
+pub placed_at : (n i j : ℕ) (x : Float) {k : ℕ} → Some k ≡ place_of n i j → placed_in n i j x ≡ (k, x) ∷ []
+unfolding placed_in place_of
+placed_at n i j x {k} e = go (ltb i n && ltb j n) e
+  where
+    go : (b : Bool) → Some k ≡ cond b (Some (i * n + j)) None → cond {A = List (ℕ × Float)} b ((i * n + j, x) ∷ []) [] ≡ (k, x) ∷ []
+    go true e = let q : i * n + j ≡ k = cc in ap (λ (m : ℕ). (m, x) ∷ []) q
+    go false e = absurd (let z : ◌≡◌ {A = ℕ} 0 1 = cc in omega arith)
+
 -- no such row or column
-pub placed_nowhere : (n i j : ℕ) (x : Float) → (i < n → j < n → ⊥) → placed_in n i j x ≡ []
+pub placed_nowhere : (n i j : ℕ) (x : Float) → None ≡ place_of n i j → placed_in n i j x ≡ []
+unfolding placed_in place_of
+placed_nowhere n i j x e = go (ltb i n && ltb j n) e
+  where
+    go : (b : Bool) → None ≡ cond b (Some (i * n + j)) None → cond {A = List (ℕ × Float)} b ((i * n + j, x) ∷ []) [] ≡ []
+    go true e = absurd (let z : ◌≡◌ {A = ℕ} 0 1 = cc in omega arith)
+    go false e = refl
+
+-- no row of the first place
+pub placed-no_row : (n i j : ℕ) (x : Float) → n ≤ i → placed_in n i j x ≡ []
 unfolding placed_in
-placed_nowhere n i j x f = rw (fails (both-says (ltb-says i n) (ltb-says j n)) (λ w. f w.0 w.1)) refl
+placed-no_row n i j x h = rw (fails (both-says (ltb-says i n) (ltb-says j n)) (λ w. omega (arith, w.0, h))) refl
 
 -- ---- many addends
 
@@ -96,15 +128,4 @@ row_absent n at slope jac k e h = go (lt (abs_of slope) area_limit)
     go true = refl
     go false =
         placed-map n at (λ f. ((e, f), slope ⊗ neg (get_or jac (10 * k + f) nan))) (upto 10)
-        ∙ gather-nothing (λ f. placed_in n (get_or at e 0) (get_or at f 0) (slope ⊗ neg (get_or jac (10 * k + f) nan))) (upto 10) (λ f. placed_nowhere n (get_or at e 0) (get_or at f 0) (slope ⊗ neg (get_or jac (10 * k + f) nan)) (λ i j. omega (arith, i, h)))
-
--- ---- six lists of addends, one after the other
-
--- six lists of addends, one after the other, are one list
-pub six_scatters : {S X : Type 0} (d : S) (f : S → X → S) (a1 a2 a3 a4 a5 a6 : List (ℕ × X)) (m0 m1 m2 m3 m4 m5 m6 : List S)
-    → m1 ≡ scatter d f a1 m0 → m2 ≡ scatter d f a2 m1 → m3 ≡ scatter d f a3 m2 → m4 ≡ scatter d f a4 m3 → m5 ≡ scatter d f a5 m4 → m6 ≡ scatter d f a6 m5
-    → m6 ≡ scatter d f (a1 ++ (a2 ++ (a3 ++ (a4 ++ (a5 ++ (a6 ++ [])))))) m0
-unfolding scatter
-six_scatters {S} {X} d f a1 a2 a3 a4 a5 a6 m0 m1 m2 m3 m4 m5 m6 e1 e2 e3 e4 e5 e6 =
-    rw (append-nil a6)
-    (sym (scatter-append d f a1 (a2 ++ (a3 ++ (a4 ++ (a5 ++ a6)))) m0 ∙ rw (← e1) (scatter-append d f a2 (a3 ++ (a4 ++ (a5 ++ a6))) m1 ∙ rw (← e2) (scatter-append d f a3 (a4 ++ (a5 ++ a6)) m2 ∙ rw (← e3) (scatter-append d f a4 (a5 ++ a6) m3 ∙ rw (← e4) (scatter-append d f a5 a6 m4 ∙ rw (← e5) (sym e6)))))))
+        ∙ gather-nothing (λ f. placed_in n (get_or at e 0) (get_or at f 0) (slope ⊗ neg (get_or jac (10 * k + f) nan))) (upto 10) (λ f. placed-no_row n (get_or at e 0) (get_or at f 0) (slope ⊗ neg (get_or jac (10 * k + f) nan)) h)

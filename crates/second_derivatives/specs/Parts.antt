@@ -1,5 +1,5 @@
 -- Where what is added stands in the matrix: places of free edges, rows, the diagonal and what is off it. Definitions only.
-use Rattle.std.specs.Prelude.{ℕ, zero, suc, ◌+◌, ◌*◌, not, cond, ◌&&◌, List, [], ◌∷◌, map, eqb, ltb, Float, get_or}
+use Rattle.std.specs.Prelude.{ℕ, zero, suc, ◌+◌, ◌*◌, not, cond, ◌&&◌, List, [], ◌∷◌, map, eqb, ltb, Float, get_or, Option, Some, None}
 use Rattle.std.specs.Float.{nan}
 use Rattle.floats.specs.Ops as Ops
 use Rattle.floats.specs.Ops.{◌⊕◌, ◌⊗◌}
@@ -16,6 +16,10 @@ index_of e (x ∷ xs) = let r = index_of e xs in cond (eqb x e) zero (suc r)
 -- where each of these edges stands among the free ones
 abbrev pub places_in : List ℕ → List ℕ → List ℕ
 places_in free es = map (λ e. index_of e free) es
+
+-- where row i and column j of n rows of n stand, one row after the other; none if there is no such row or column
+unfoldable pub place_of : ℕ → ℕ → ℕ → Option ℕ
+place_of n i j = cond (ltb i n && ltb j n) (Some (i * n + j)) None
 
 -- a value in row i and column j of n rows of n, one after the other; nothing if there is no such row or column
 unfoldable pub placed_in : ℕ → ℕ → ℕ → Float → List (ℕ × Float)

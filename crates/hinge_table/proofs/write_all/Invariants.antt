@@ -8,4 +8,4 @@ use Rattle.hinge_table.proofs.write_all.Given as goal
 
 abbrev pub invariant-loop-t : goal.invariant-loop-t
 invariant-loop-t l = (length l.table ≡ length l.initial.table)
-    × (l.table ≡ writes (hinge_in (hinges (faces_of l.complex) l.sq_lengths)) (upto l.t) l.initial.table)
+    × (l.table ≡ writes (hinge_in (hinges (faces_of l.built.complex) l.sq_lengths)) (upto l.t) l.initial.table)

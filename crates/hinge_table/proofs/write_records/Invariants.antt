@@ -7,4 +7,4 @@ use Rattle.hinge_table.proofs.write_records.Given as goal
 
 abbrev pub invariant-loop-tri : goal.invariant-loop-tri
 invariant-loop-tri l = (length l.table ≡ length l.initial.table)
-    × (l.table ≡ writes (hinge_in (hinges (faces_of l.complex) l.sq_lengths)) (take l.tri-index l.tris) l.initial.table)
+    × (l.table ≡ writes (hinge_in (hinges (faces_of l.built.complex) l.sq_lengths)) (take l.tri-index l.tris) l.initial.table)

@@ -1,16 +1,16 @@
 -- `second_derivatives::add_opposite` meets its contract. Assumes nothing.
-use mathlib.Core.Path.{refl}
+use Rattle.floats.specs.Ops.{◌⊕◌}
 use Rattle.lists.specs.Lists.{gather}
-use Rattle.lists.specs.Loops.{scatter}
 use Rattle.second_derivatives.specs.Parts.{placed}
 use Rattle.second_derivatives.proofs.Opposites.{area-skipped, area-kept}
+use Rattle.second_derivatives.proofs.Scattering.{scattered-none}
 use Rattle.second_derivatives.proofs.add_opposite.Goals as goal
 
 pub returns-then-area : goal.returns-then-area
-unfolding placed gather scatter
+unfolding placed gather
 returns-then-area c =
     let a = c.args in
-    rw (area-skipped a.s.now a.jacobian.now a.k c.lengths_opposite-own.result c.abs_area-area.result c.lengths_opposite-own.ensures c.abs_area-area.ensures c.if-area.true) refl
+    rw (area-skipped a.s.now a.jacobian.now a.k c.lengths_opposite-own.result c.abs_area-area.result c.lengths_opposite-own.ensures c.abs_area-area.ensures c.if-area.true) (scattered-none ◌⊕◌ a.matrix.now)
 
 pub returns : goal.returns
 returns c =

@@ -1,13 +1,12 @@
 -- `second_derivatives::add_row` meets its contract. Assumes nothing.
-use Prim.Native.Nat.{ℕ, ◌+◌, ◌*◌, ◌-◌, ◌≤◌}
+use Prim.Native.Nat.{ℕ, ◌+◌, ◌*◌}
 use mathlib.Core.List.{List}
-use mathlib.Core.Path.{◌≡◌}
 use lib.Ieee.{Float, nan, neg}
 use lib.ListN.{length, get_or}
 use Rattle.floats.specs.Ops.{◌⊕◌, ◌⊗◌}
 use Rattle.lists.specs.Lists.{gather, upto}
-use Rattle.lists.specs.Loops.{scatter}
 use Rattle.second_derivatives.specs.Parts.{placed_in}
+use Rattle.second_derivatives.specs.Matrix.{Scattered}
 use Rattle.second_derivatives.proofs.add_row.Given as goal
 
 -- what goes to the f-th place of the row
@@ -16,7 +15,4 @@ event n at jac k e slope f = placed_in n (get_or at e 0) (get_or at f 0) (slope 
 
 abbrev pub invariant-loop-f : goal.invariant-loop-f
 invariant-loop-f l =
-    (l.f ≤ 10) × (length l.matrix ≡ length l.initial.matrix) × (l.matrix ≡ scatter nan ◌⊕◌ (gather (event l.n l.at l.jacobian l.k l.e l.slope) (upto l.f)) l.initial.matrix)
-
-abbrev pub decreases-loop-f : goal.decreases-loop-f
-decreases-loop-f l = 10 - l.f
+    Scattered ◌⊕◌ (gather (event (length l.initial.matrix.free_edges.now) l.at l.jacobian l.k l.e l.slope) (upto l.f)) l.initial.matrix l.matrix

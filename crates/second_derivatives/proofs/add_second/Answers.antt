@@ -1,38 +1,23 @@
 -- `second_derivatives::add_second` meets its contract. Assumes nothing.
-use Prim.Native.Nat.{ℕ}
-use mathlib.Core.List.{List}
-use mathlib.Core.Path.{◌≡◌, refl, ◌∙◌}
+use mathlib.Core.Path.{◌≡◌, refl}
 use native.Mathlib.Omega.{arith}
-use lib.Ieee.{Float, nan}
+use lib.ListN.{length}
 use Rattle.floats.specs.Ops.{◌⊕◌}
-use Rattle.lists.specs.Lists.{gather, upto}
-use Rattle.lists.specs.Loops.{scatter}
-use Rattle.lists.proofs.Loops.{scatter-turn}
+use Rattle.lists.specs.Lists.{upto}
 use Rattle.second_derivatives.specs.SecondDerivatives.{triangle_adds, second_adds}
 use Rattle.second_derivatives.proofs.Placing.{placed-gather}
+use Rattle.second_derivatives.proofs.Scattering.{scattered-start, scattered-turn}
 use Rattle.second_derivatives.proofs.add_second.Invariants.{event}
 use Rattle.second_derivatives.proofs.add_second.Goals as goal
 
 pub loop-k-init : goal.loop-k-init
-unfolding upto gather scatter
-loop-k-init c = (omega arith, refl, refl)
-
-pub add_opposite-requires : goal.add_opposite-requires
-add_opposite-requires c = let r = c.requires in (r.0, omega (arith, r.1, c.loop-k.invariant.1), c.loop-k-test.true)
+loop-k-init c = scattered-start ◌⊕◌ _ _
 
 pub loop-k-preserved : goal.loop-k-preserved
 loop-k-preserved c =
     let a = c.args in
     let l = c.loop-k in
-    let f = c.add_opposite in
-    let events : ℕ → List (ℕ × Float) = event a.n a.at.now a.s.now c.all_lorentzian_dihedrals_jacobian-jacobian.result in (
-      omega arith,
-      f.auto.matrix ∙ l.invariant.1,
-      scatter-turn nan ◌⊕◌ events l.k (events l.k) a.matrix.now l.matrix f.new.matrix refl l.invariant.2 f.ensures,
-    )
-
-pub shape_of-matrix : goal.shape_of-matrix
-shape_of-matrix c = c.loop-k.invariant.1
+    scattered-turn ◌⊕◌ (event (length a.matrix.now.free_edges.now) a.at.now a.s.now c.all_lorentzian_dihedrals_jacobian-jacobian.result) l.k _ a.matrix.now l.matrix _ (rw l.invariant.free_edges refl) l.invariant c.add_opposite.ensures
 
 pub returns : goal.returns
 unfolding second_adds
@@ -40,5 +25,5 @@ returns c =
     let a = c.args in
     let l = c.loop-k in
     let j = c.all_lorentzian_dihedrals_jacobian-jacobian in
-    let e : l.k ≡ 10 = omega arith in
-    rw (← j.ensures, placed-gather a.n a.at.now (triangle_adds a.s.now j.result) (upto 10)) (rw e at l.invariant.2)
+    let e : l.k ≡ 10 = omega (arith, c.loop-k-test.false, l.auto.k-end) in
+    rw (← j.ensures, placed-gather (length a.matrix.now.free_edges.now) a.at.now (triangle_adds a.s.now j.result) (upto 10)) (rw e at l.invariant)

@@ -1,14 +1,13 @@
 -- `second_derivatives::add_second` meets its contract. Assumes nothing.
-use Prim.Native.Nat.{ℕ, ◌-◌, ◌≤◌}
+use Prim.Native.Nat.{ℕ}
 use mathlib.Core.List.{List}
-use mathlib.Core.Path.{◌≡◌}
-use lib.Ieee.{Float, nan}
+use lib.Ieee.{Float}
 use lib.ListN.{length}
 use Rattle.floats.specs.Ops.{◌⊕◌}
 use Rattle.lists.specs.Lists.{gather, upto}
-use Rattle.lists.specs.Loops.{scatter}
 use Rattle.second_derivatives.specs.SecondDerivatives.{triangle_adds}
 use Rattle.second_derivatives.specs.Parts.{placed}
+use Rattle.second_derivatives.specs.Matrix.{Scattered}
 use Rattle.second_derivatives.proofs.add_second.Given as goal
 
 -- what goes to the triangle opposite the k-th pair
@@ -17,7 +16,4 @@ event n at s jac k = placed n at (triangle_adds s jac k)
 
 abbrev pub invariant-loop-k : goal.invariant-loop-k
 invariant-loop-k l =
-    (l.k ≤ 10) × (length l.matrix ≡ length l.initial.matrix) × (l.matrix ≡ scatter nan ◌⊕◌ (gather (event l.n l.at l.s l.jacobian) (upto l.k)) l.initial.matrix)
-
-abbrev pub decreases-loop-k : goal.decreases-loop-k
-decreases-loop-k l = 10 - l.k
+    Scattered ◌⊕◌ (gather (event (length l.initial.matrix.free_edges.now) l.at l.s l.jacobian) (upto l.k)) l.initial.matrix l.matrix

@@ -1,14 +1,13 @@
 -- `second_derivatives::add_slopes` meets its contract. Assumes nothing.
-use Prim.Native.Nat.{ℕ, ◌-◌, ◌≤◌}
+use Prim.Native.Nat.{ℕ}
 use mathlib.Core.List.{List}
-use mathlib.Core.Path.{◌≡◌}
 use lib.Ieee.{Float, nan}
 use lib.ListN.{length, get_or}
 use Rattle.floats.specs.Ops.{◌⊕◌, ◌⊗◌}
 use Rattle.lists.specs.Lists.{gather, upto}
-use Rattle.lists.specs.Loops.{scatter}
 use Rattle.second_derivatives.specs.SecondDerivatives.{slope_row}
 use Rattle.second_derivatives.specs.Parts.{placed}
+use Rattle.second_derivatives.specs.Matrix.{Scattered}
 use Rattle.second_derivatives.proofs.add_slopes.Given as goal
 
 -- what goes to the row of the e-th edge
@@ -17,7 +16,4 @@ event n at jac k factor grad e = placed n at (slope_row (factor ⊗ get_or grad 
 
 abbrev pub invariant-loop-e : goal.invariant-loop-e
 invariant-loop-e l =
-    (l.e ≤ 10) × (length l.matrix ≡ length l.initial.matrix) × (l.matrix ≡ scatter nan ◌⊕◌ (gather (event l.n l.at l.jacobian l.k l.factor l.grad) (upto l.e)) l.initial.matrix)
-
-abbrev pub decreases-loop-e : goal.decreases-loop-e
-decreases-loop-e l = 10 - l.e
+    Scattered ◌⊕◌ (gather (event (length l.initial.matrix.free_edges.now) l.at l.jacobian l.k l.factor l.grad) (upto l.e)) l.initial.matrix l.matrix

@@ -1,33 +1,42 @@
 -- `hessian::matrix::add_first_term` meets its contract. Assumes nothing.
 use mathlib.Core.Bool.{Bool, false}
 use Prim.Native.Nat.{ℕ}
-use mathlib.Core.Path.{refl}
+use mathlib.Core.List.{List}
+use mathlib.Core.Path.{◌≡◌, refl, ap, ◌∙◌}
 use native.Mathlib.Omega.{arith}
+use lib.Ieee.{Float, nan}
 use Rattle.floats.specs.Ops.{zero}
+use Rattle.lists.specs.Lists.{gather}
+use Rattle.lists.specs.Loops.{scatter}
 use Rattle.lists.proofs.Rows.{length-rows}
+use Rattle.complex.specs.Lent.{triangles_of, edges_of}
+use Rattle.marks.specs.Marks.{marked_below}
 use Rattle.marks.proofs.Marking.{scratch-room}
 use Rattle.hinges.specs.Hinges.{FaceLists, faces_of}
-use Rattle.hessian.proofs.HessianTerms.{first-whole}
+use Rattle.hinges.specs.Local.{local_triangles}
+use Rattle.second_derivatives.specs.Parts.{before}
+use Rattle.hessian.specs.Parts.{first_at}
+use Rattle.hessian.specs.Steps.{ahead, diagonal_events}
+use Rattle.hessian.proofs.HessianTerms.{on-free, sums-whole}
 use Rattle.hessian.proofs.matrix.add_first_term.Goals as goal
-
-pub add_marked_tris-requires : goal.add_marked_tris-requires
-add_marked_tris-requires c =
-    let a = c.args in
-    let r = c.requires in
-    (r.0, omega (arith, scratch-room {A = Bool} 81920 refl false _ refl a.complex.now.counts.triangles r.0.few, c.mark_tris.auto.marks), scratch-room 81920 refl zero _ refl a.complex.now.counts.edges r.3, r.4, r.5)
-
-pub put_diagonal-requires : goal.put_diagonal-requires
-put_diagonal-requires c =
-    let a = c.args in
-    let r = c.requires in
-    let f = c.add_marked_tris in
-    (λ k h. omega (arith, r.2 k h, scratch-room 81920 refl zero _ refl a.complex.now.counts.edges r.3, f.auto.diagonal), r.4, omega (arith, r.5, f.auto.matrix))
 
 pub returns : goal.returns
 returns c =
-    let a = c.args in
-    let F : FaceLists = faces_of a.complex.now in
+    let x = c.args.complex.now in
+    let F : FaceLists = faces_of x in
+    let ls = c.args.sq_lengths.now in
+    let free = c.args.matrix.now.free_edges.now in
     let m = c.mark_tris in
-    let f = c.add_marked_tris in
-    let p = c.put_diagonal in
-    first-whole F a.sq_lengths.now a.free_edges.now a.complex.now.counts.triangles 81920 refl _ m.new.marks _ f.new.diagonal refl refl m.ensures (length-rows 3 a.complex.now.counts.triangles a.complex.now.triangles.now) c.requires.0.few a.matrix.now f.new.matrix p.new.matrix f.ensures.0 f.ensures.1 p.ensures
+    let f = c.add_tris in
+    let p = c.put_diagonal.ensures in
+    let marked : marked_below x.counts.triangles m.new.marks ≡ local_triangles F free =
+    on-free (triangles_of x) (edges_of x) free x.counts.triangles 81920 _ m.new.marks refl m.ensures (length-rows 3 x.counts.triangles x.triangles.now) c.requires.0.few in
+    let sums = sums-whole F ls free 81920 refl _ _ f.new.diagonal marked refl f.ensures.diagonal in
+    record {
+      lent = p.lent ∙ f.ensures.others.lent;
+      entries =
+          p.entries
+          ∙ ap (λ (r : List ℕ). scatter nan ahead (diagonal_events r f.new.diagonal) f.new.matrix.entries.now) (ap (λ r. r.now) f.ensures.others.free_edges)
+          ∙ ap (λ (s : List Float). scatter nan ahead (diagonal_events free s) f.new.matrix.entries.now) sums
+          ∙ ap (scatter nan ahead (diagonal_events free _)) (f.ensures.others.entries ∙ ap (λ (own : List ℕ). scatter nan before (gather (first_at F ls free) own) c.args.matrix.now.entries.now) marked);
+    }

@@ -1,19 +1,21 @@
 -- `hessian::matrix::write_hessian` meets its contract. Assumes nothing.
-use native.Mathlib.Omega.{arith}
+use Rattle.std.proofs.Common.{rules}
+use mathlib.Core.Path.{◌≡◌, sym, ◌∙◌}
 use lib.ListN.{length}
+use Rattle.lists.specs.Rows.{over}
+use Rattle.hinges.specs.Hinges.{faces_of}
+use Rattle.hessian.specs.Hessian.{local_hessian}
 use Rattle.hessian.proofs.HessianTerms.{hessian-whole}
 use Rattle.hessian.proofs.matrix.write_hessian.Goals as goal
-
-pub add_first_term-requires : goal.add_first_term-requires
-add_first_term-requires c =
-    let r = c.requires in
-    (r.0, r.1, r.3, r.5, r.6, omega (arith, r.7, c.zero_all.auto.list, c.add_second_term.auto.matrix))
 
 pub returns : goal.returns
 returns c =
     let a = c.args in
     let r = c.requires in
-    let z = c.zero_all in
     let s = c.add_second_term in
     let f = c.add_first_term in
-    hessian-whole a.complex.now.counts a.complex.now.pents.now a.complex.now.edges.now a.complex.now.triangles.now a.complex.now.tri_to_pents.items.now a.complex.now.tri_to_pents.starts.now a.incidence.now.pent_edges.now a.incidence.now.pent_tris.now (length a.sq_lengths.now) r.0 a.sq_lengths.now a.free_edges.now a.fd_eps r.4 r.3 r.5 a.matrix.now z.new.list s.new.matrix f.new.matrix z.ensures s.ensures f.ensures
+    let whole : f.new.matrix.entries.now ≡ over (local_hessian (faces_of a.complex.now) a.sq_lengths.now a.free_edges.now a.fd_eps) a.matrix.now =
+    hessian-whole a.complex.now a.incidence.now (length a.sq_lengths.now) r.0 a.sq_lengths.now a.free_edges.now a.fd_eps r.4 r.3 r.5
+    a.matrix.now c.zero_all.new.list s.new.matrix.entries.now f.new.matrix.entries.now c.zero_all.ensures s.ensures.entries (rw s.ensures.free_edges at f.ensures.entries) in
+    let lent = sym (f.ensures.lent ∙ s.ensures.lent) in
+    search rules

@@ -1,0 +1,12 @@
+-- `hessian::matrix::add_pents` meets its contract. Assumes nothing.
+use Rattle.floats.specs.Ops.{◌⊕◌}
+use Rattle.lists.specs.Lists.{gather}
+use Rattle.marks.specs.Marks.{marked_below}
+use Rattle.hinges.specs.Hinges.{faces_of}
+use Rattle.second_derivatives.specs.Matrix.{Scattered}
+use Rattle.hessian.specs.Parts.{second_at}
+use Rattle.hessian.proofs.matrix.add_pents.Given as goal
+
+abbrev pub invariant-loop-p : goal.invariant-loop-p
+invariant-loop-p l =
+    Scattered ◌⊕◌ (gather (second_at (faces_of l.complex) l.sq_lengths l.initial.matrix.free_edges.now l.fd_eps) (marked_below l.p l.marks)) l.initial.matrix l.matrix

@@ -1,0 +1,34 @@
+-- `hessian::matrix::add_tri` meets its contract. Assumes nothing.
+use native.Mathlib.Omega.{arith}
+use lib.ListN.{length}
+use Rattle.incidence.specs.Incidence.{edge_list}
+use Rattle.hinges.specs.Hinges.{FaceLists, faces_of}
+use Rattle.hinges.proofs.TriangleSteps.{edges-below}
+use Rattle.hessian.proofs.HessianLoops.{diagonal-event, first-event}
+use Rattle.hessian.proofs.matrix.add_tri.Goals as goal
+
+pub tri_sq_lengths-s-requires : goal.tri_sq_lengths-s-requires
+tri_sq_lengths-s-requires c =
+    let a = c.args in
+    edges-below c.requires.0 a.tri.0 c.requires.1 (edge_list c.tri_edge_indices-own.result) c.tri_edge_indices-own.ensures (length a.sq_lengths.now) (omega (arith, c.requires.0.passable.lengths))
+
+pub add_first-requires : goal.add_first-requires
+add_first-requires c =
+    let a = c.args in
+    let r = c.requires in
+    edges-below r.0 a.tri.0 r.1 (edge_list c.tri_edge_indices-own.result) c.tri_edge_indices-own.ensures (length a.diagonal.now) r.2
+
+pub returns : goal.returns
+returns c =
+    let a = c.args in
+    let F : FaceLists = faces_of a.complex.now in
+    let o = c.tri_edge_indices-own in
+    let h = c.hinge_at-hinge in
+    let s = c.tri_sq_lengths-s in
+    let p = c.places-at in
+    let ls = a.sq_lengths.now in
+    let free = a.matrix.now.free_edges.now in
+    record {
+      diagonal = rw (← diagonal-event F ls free (edge_list o.result) p.result s.result a.tri.0 p.ensures s.ensures h.result o.ensures h.ensures) c.add_first.ensures.diagonal;
+      others = rw (← first-event F ls free (edge_list o.result) p.result s.result a.tri.0 p.ensures s.ensures h.result o.ensures h.ensures) c.add_first.ensures.others;
+    }

@@ -1,0 +1,18 @@
+-- `second_derivatives::matrix::FreeMatrix::add` meets its contract. Assumes nothing.
+use mathlib.Core.Path.{refl, sym, ◌∙◌}
+use lib.ListN.{length}
+use Rattle.lists.specs.Loops.{scatter}
+use Rattle.second_derivatives.proofs.Placing.{placed_at, placed_nowhere}
+use Rattle.second_derivatives.proofs.matrix.FreeMatrix.add.Goals as goal
+
+pub returns-in-Some : goal.returns-in-Some
+unfolding scatter
+returns-in-Some c =
+    let a = c.args in
+    record { free_edges = refl; lent = refl; entries = rw (placed_at (length a.self.now.free_edges.now) a.row a.col a.x c.in-Some.ensures.value) refl }
+
+pub returns-in_default : goal.returns-in_default
+unfolding scatter
+returns-in_default c =
+    let a = c.args in
+    record { free_edges = refl; lent = refl; entries = rw (placed_nowhere (length a.self.now.free_edges.now) a.row a.col a.x (sym c.in_default.is ∙ c.place.ensures.value)) refl }
