@@ -1,3 +1,14 @@
+// Replays stored retouches, each line on plain lists and then on records. The numbers of a line are 16 hexadecimal digits each:
+// the vertex count with which the complex is built, and the one in the counts of the calls; how many vertices of pentachorons
+// follow, at most 40, how many lengths, at most 80, and how many retouches, at most 12; how many deficits and kinds the table
+// has, at most 100 each; 0 if it is worked out first; a place of edge_to_pents_items and the number that is put there, if the
+// list has that place; a place of the table and the deficit, as bits, and the kind that are put there then, if it has that
+// place; the vertices; the squared lengths as bits; for each retouch the edge and the new length as bits. The retouches follow
+// each other on one complex, length list and table. For each it prints 0 or the refusal's number, and all lengths, deficits and
+// kinds after it. The table of records has 640, of which as many are printed as the other has deficits. A double is its bits or
+// nan, a kind its byte. A deficit that isn't worked out first has the bits 50000, a kind the byte 100; a record is then
+// Spacelike, and so it is where the byte that is put there is no kind. oracle/retouch made stdin and stdout from the Rust's
+// answers and the table of refusals.
 #![tactic(auto)]
 
 ghost use Rattle.std.specs.Prelude.{◌<◌, ◌≤◌, length, IfOk};
