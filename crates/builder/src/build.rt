@@ -4,7 +4,7 @@ ghost use Rattle.complex.specs.Builder.{sorted_pents, counts_of, written, over_a
 ghost use Rattle.complex.specs.Lent.{lists_in, SameLists};
 ghost use Rattle.complex.specs.Parts.{Buildable};
 
-use complex::{Counts, ListsMut, adjacency, number_all, sort_all};
+use complex::{Counts, Incidence, ListsMut, adjacency, number_all, sort_all};
 
 // The ten lists are written. Scratch: `work` links the chains of the search, and then has the edges of each triangle.
 pub fn build(n_vertices: usize, given: &[u32], lists: &mut ListsMut<'_>) -> Counts
@@ -34,14 +34,11 @@ pub fn build(n_vertices: usize, given: &[u32], lists: &mut ListsMut<'_>) -> Coun
         &mut pent_edges,
         &mut pent_tris,
     );
-    adjacency(
-        &pent_edges[..met],
-        &pent_tris[..met],
-        faces.edges,
-        faces.triangles,
-        &mut work,
-        lists,
-    );
+    let numbers = Incidence {
+        pent_edges: &pent_edges[..met],
+        pent_tris: &pent_tris[..met],
+    };
+    adjacency(&numbers, faces, &mut work, lists);
     Counts {
         vertices: n_vertices,
         pentachorons: len / 5,

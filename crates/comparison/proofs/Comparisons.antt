@@ -14,12 +14,13 @@ use Rattle.lists.proofs.Rows.{length-rows, rows-wide, drop-later, begins-says, b
 use Rattle.complex.specs.declared.Counts.{Counts}
 use Rattle.complex.specs.declared.numbering.Face.{Face}
 use Rattle.complex.specs.declared.numbering.Face.TheVariants.{Edge, Triangle, Tet}
-use Rattle.comparison.specs.declared.flat_rows.Rows.{Rows}
+use Rattle.lists.specs.declared.flat_rows.FlatRows.{FlatRows}
+use Rattle.lists.specs.Lent.{rows_of}
 use Rattle.complex.specs.Complex.{count_of, edges, triangles, numbers_of}
 use Rattle.complex.specs.Builder.{Lists}
 use Rattle.complex.specs.Check.{pents_in, edges_in, triangles_in, given_of, holds, is_built}
 use Rattle.comparison.specs.CheckParts.{all_rise, has_pents, has_faces, has_all_faces, has_adjacency}
-use Rattle.comparison.specs.Parts.{rows_of, Noted, Noting, Holdable, Faced}
+use Rattle.comparison.specs.Parts.{Noted, Noting, Holdable, Faced}
 use Rattle.complex.proofs.Meetings.{count-le}
 use Rattle.complex.proofs.FaceNumbers.{length-numbers}
 use Rattle.comparison.proofs.FaceLists.{has-says, has-rows, has_room}
@@ -46,14 +47,14 @@ module _ (c : Counts) (l : Lists) (ok : Faced c l) where
   five = rows-wide 5 c.pentachorons l.pents ok.long
 
   -- what each comparison asks of its keys and rows
-  pub tri-to-pents-asks : (keys rs : Rows) → rows_of keys ≡ triangles_in c l.triangles → rows_of rs ≡ pents_in c l.pents → Holdable keys rs (10 * c.pentachorons)
+  pub tri-to-pents-asks : (keys rs : FlatRows) → rows_of keys ≡ triangles_in c l.triangles → rows_of rs ≡ pents_in c l.pents → Holdable keys rs (10 * c.pentachorons)
   tri-to-pents-asks keys rs k r =
       record {
         counted =
             rw (k, r, triangle-rows) (ap (λ (n : ℕ). 10 * n) (sym (length-rows 5 c.pentachorons l.pents)) ∙ sym (tri-to-pents-total (pents_in c l.pents) five ok.rise));
       }
 
-  pub edge-to-tris-asks : (keys rs : Rows) → rows_of keys ≡ edges_in c l.edges → rows_of rs ≡ triangles_in c l.triangles → Holdable keys rs (3 * c.triangles)
+  pub edge-to-tris-asks : (keys rs : FlatRows) → rows_of keys ≡ edges_in c l.edges → rows_of rs ≡ triangles_in c l.triangles → Holdable keys rs (3 * c.triangles)
   edge-to-tris-asks keys rs k r =
       record {
         counted =
@@ -61,7 +62,7 @@ module _ (c : Counts) (l : Lists) (ok : Faced c l) where
             (ap (λ (n : ℕ). 3 * n) (sym (length-rows 3 c.triangles l.triangles) ∙ ap length triangle-rows) ∙ sym (edge-to-tris-total (pents_in c l.pents) five ok.rise));
       }
 
-  pub edge-to-pents-asks : (keys rs : Rows) → rows_of keys ≡ edges_in c l.edges → rows_of rs ≡ pents_in c l.pents → Holdable keys rs (10 * c.pentachorons)
+  pub edge-to-pents-asks : (keys rs : FlatRows) → rows_of keys ≡ edges_in c l.edges → rows_of rs ≡ pents_in c l.pents → Holdable keys rs (10 * c.pentachorons)
   edge-to-pents-asks keys rs k r =
       record {
         counted =

@@ -20,11 +20,12 @@ use Rattle.lists.proofs.Elements.{get_or-mem, mem-gather, length-gather, length-
 use Rattle.lists.proofs.Keys.{find-mem}
 use Rattle.lists.proofs.Rows.{length-rows, length-starts, starts_first, starts-last, begins-says, begins-long, part, Splits, flat-parts, length-parts, starts-parts, flat-sub, begun-start, begun-fits, begun-part}
 use Rattle.lists.proofs.Grouped.{flat-groups, order-full}
-use Rattle.comparison.specs.declared.flat_rows.Rows.{Rows}
+use Rattle.lists.specs.declared.flat_rows.FlatRows.{FlatRows}
+use Rattle.lists.specs.Lent.{rows_of}
 use Rattle.complex.specs.Complex.{holding, edges, triangles, row_numbers}
 use Rattle.complex.specs.Check.{holds}
 use Rattle.comparison.specs.CheckParts.{lying, part_lies}
-use Rattle.comparison.specs.Parts.{rows_of, Holdable}
+use Rattle.comparison.specs.Parts.{Holdable}
 use Rattle.complex.proofs.Lying.{Sorted, Keyed, mem-holding, holding-mem, groups-holding}
 use Rattle.complex.proofs.Laws.{holding-rising}
 use Rattle.complex.proofs.FaceNumbers.{keyed-triangles, keyed-edges, keyed-triangle-edges}
@@ -154,7 +155,7 @@ module _ (rs : List (List ℕ)) (key : ℕ → List ℕ) (n : ℕ) (items ss : L
   parts_say = and-says tested items_begin starts_begin (begins-says (flat all) items) (begins-says (starts all) ss)
 
 -- the check of lists says that they are those of all rows
-pub holds-says : {keys rs : Rows} {total : ℕ} → Holdable keys rs total → (items ss : List ℕ)
+pub holds-says : {keys rs : FlatRows} {total : ℕ} → Holdable keys rs total → (items ss : List ℕ)
     → Says (Tested (rows_of rs) (λ j. get_or (rows_of keys) j []) keys.count total items ss) (holds (rows_of rs) (rows_of keys) items ss)
 unfolding holds all
 holds-says {keys} {rs} h items ss =

@@ -2,13 +2,14 @@
 use Rattle.std.specs.Prelude.{ℕ, ◌*◌, ◌%◌, ◌≤◌, ◌≡◌, Bool, true, length, drop}
 use mathlib.Core.List.{List, map, Memᴰ}
 use Rattle.lists.specs.Lists.{Rising}
-use Rattle.lists.specs.Rows.{flat, rows, over, begins}
+use Rattle.lists.specs.declared.flat_rows.FlatRows.{FlatRows}
+use Rattle.lists.specs.Lent.{rows_of}
+use Rattle.lists.specs.Rows.{flat, over, begins}
 use Rattle.complex.specs.declared.Counts.{Counts}
 use Rattle.complex.specs.declared.numbering.Face.TheVariants.{Edge, Triangle}
 use Rattle.complex.specs.Complex.{numbers_of, holding}
 use Rattle.complex.specs.Builder.{Lists}
 use Rattle.complex.specs.Check.{pents_in}
-use Rattle.comparison.specs.declared.flat_rows.Rows.{Rows}
 use Rattle.comparison.specs.CheckParts.{has_faces}
 
 -- whole pentachorons, and room for ten numbers of each
@@ -31,12 +32,8 @@ pub record Noting (ps : List (List ℕ)) (r : Bool) (pe pt pe' pt' : List ℕ) :
   pub edges_kept : drop (10 * length ps) pe' ≡ drop (10 * length ps) pe
   pub triangles_kept : drop (10 * length ps) pt' ≡ drop (10 * length ps) pt
 
--- the rows of a lent list
-abbrev pub rows_of : Rows → List (List ℕ)
-rows_of r = rows r.width r.count r.list.now
-
 -- the total is how many rows the keys lie in, one key after the other
-pub record Holdable (keys rs : Rows) (total : ℕ) : Type 0 where
+pub record Holdable (keys rs : FlatRows) (total : ℕ) : Type 0 where
   pub counted : total ≡ length (flat (map (holding (rows_of rs)) (rows_of keys)))
 
 -- the lists of faces are those of sorted pentachorons

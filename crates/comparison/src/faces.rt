@@ -6,11 +6,11 @@ ghost use Rattle.complex.specs.Parts.{Searched};
 ghost use Rattle.comparison.specs.CheckParts.{has_faces};
 
 use complex::Face;
-use lists::match_rows;
+use lists::{FlatRows, match_rows};
 
 // Whether `list` begins with the faces of all pentachorons, numbered by first meeting, and n_faces is their count. `next`
 // links the chains of the search; `numbers` gets the number of each face as it is met, and is kept after these. The list is no
-// `Rows`: whether it has so many is tested here.
+// `FlatRows`: whether it has so many is tested here.
 pub fn has_faces(
     face: Face,
     pents: &[u32],
@@ -24,28 +24,21 @@ pub fn has_faces(
     ensures numbers_after { (result ≡ true → numbers.new ≡ over (numbers_of face (rows 5 (length pents.now / 5) pents.now)) numbers.old)
         × (drop (count_of face * (length pents.now / 5)) numbers.new ≡ drop (count_of face * (length pents.now / 5)) numbers.old) }
 {
-    let pentachorons = pents.len() / 5;
-    let w = face.width();
+    let width = face.width();
     let count = face.count();
-    if count * pentachorons < n_faces || list.len() < w * n_faces {
+    if count * (pents.len() / 5) < n_faces || list.len() < width * n_faces {
         return false;
     }
     let mut head = [0u32; 32768];
     let mut n = 0;
-    for k in 0..pentachorons {
-        let given = face.rows_at(pents, 5 * k);
-        let Some(met) = match_rows(
-            list,
-            &mut head,
-            next,
-            n,
-            n_faces,
-            &given,
-            w,
+    for (k, pent) in pents.chunks_exact(5).enumerate() {
+        let given = FlatRows {
+            width,
             count,
-            numbers,
-            count * k,
-        ) else {
+            list: &face.rows_of(pent),
+        };
+        let at = count * k;
+        let Some(met) = match_rows(list, &mut head, next, n, n_faces, &given, numbers, at) else {
             return false;
         };
         n = met;

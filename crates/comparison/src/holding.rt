@@ -1,12 +1,13 @@
 // Whether adjacency lists are those of a complex: for each key the rows in which it lies.
 ghost use Rattle.std.specs.Prelude.{◌≡◌, ◌+◌, ◌<◌, length};
 ghost use Rattle.lists.specs.Lists.{within};
+ghost use Rattle.lists.specs.Lent.{rows_of};
 ghost use Rattle.complex.specs.Check.{holds};
 ghost use Rattle.comparison.specs.CheckParts.{lying, part_lies};
-ghost use Rattle.comparison.specs.Parts.{rows_of, Holdable};
+ghost use Rattle.comparison.specs.Parts.{Holdable};
 
-use crate::flat_rows::Rows;
 use complex::{AdjacencyList, has};
+use lists::FlatRows;
 
 // Whether all vertices of a simplex are among those of `row`.
 fn lies_in(simplex: &[u32], row: &[u32]) -> bool
@@ -16,7 +17,7 @@ fn lies_in(simplex: &[u32], row: &[u32]) -> bool
 }
 
 // Whether the items ascend and are numbers of rows in which the key lies.
-fn items_lie(key: &[u32], rows: &Rows<'_>, items: &[u32]) -> bool
+fn items_lie(key: &[u32], rows: &FlatRows<'_>, items: &[u32]) -> bool
     ensures { result ≡ lying (rows_of rows.now) key.now 0 items.now }
 {
     let mut low = 0;
@@ -32,7 +33,7 @@ fn items_lie(key: &[u32], rows: &Rows<'_>, items: &[u32]) -> bool
 
 // The same of part j of the items, which goes from start j up to start j + 1.
 #[tactic(auto, unfolding(crate::specs::CheckParts::part_lies))]
-fn part_lies(key: &[u32], rows: &Rows<'_>, adjacency: &AdjacencyList<'_>, j: usize) -> bool
+fn part_lies(key: &[u32], rows: &FlatRows<'_>, adjacency: &AdjacencyList<'_>, j: usize) -> bool
     requires { j + 1 < length adjacency.now.starts.now }
     ensures { result ≡ part_lies (rows_of rows.now) key.now adjacency.now.items.now adjacency.now.starts.now j }
 {
@@ -44,8 +45,8 @@ fn part_lies(key: &[u32], rows: &Rows<'_>, adjacency: &AdjacencyList<'_>, j: usi
 // Whether an adjacency list begins with the numbers of the rows in which each key lies. `total` is how many these are: a part that
 // lies is no longer than it should be, so parts that have the total all together are whole.
 pub fn is_holding(
-    keys: &Rows<'_>,
-    rows: &Rows<'_>,
+    keys: &FlatRows<'_>,
+    rows: &FlatRows<'_>,
     adjacency: &AdjacencyList<'_>,
     total: usize,
 ) -> bool
@@ -56,6 +57,7 @@ pub fn is_holding(
     if starts.len() <= keys.count || starts[0] != 0 {
         return false;
     }
+    // No `all`: its proof doesn't close, since the search finds no part's test in what is known of the closure's calls.
     for j in 0..keys.count {
         if !part_lies(keys.row(j), rows, adjacency, j) {
             return false;

@@ -2,7 +2,6 @@
 #![tactic(auto)]
 
 mod faces;
-mod flat_rows;
 mod holding;
 
 ghost use Rattle.std.specs.Prelude.{◌≡◌, ◌*◌, ◌≤◌, length};
@@ -14,8 +13,8 @@ ghost use Rattle.comparison.specs.Parts.{Scratch, Noting, Faced};
 
 use complex::{Complex, Face};
 use faces::has_faces;
-use flat_rows::Rows;
 use holding::is_holding;
+use lists::FlatRows;
 use refusals::Refusal;
 
 // Whether the vertices of a pentachoron rise, and the last is below n.
@@ -35,12 +34,7 @@ fn vertices_rise(n: usize, pent: &[u32]) -> bool
 fn all_rise(n: usize, pents: &[u32]) -> bool
     ensures { result ≡ all_rise n (pentachorons pents.now) }
 {
-    for pent in pents.chunks_exact(5) {
-        if !vertices_rise(n, pent) {
-            return false;
-        }
-    }
-    true
+    pents.chunks_exact(5).all(|pent| vertices_rise(n, pent))
 }
 
 // Whether there is a sorted pentachoron list that the builder takes.
@@ -97,17 +91,17 @@ fn has_adjacency(complex: &Complex<'_>) -> bool
 {
     let counts = complex.counts;
     let met = 10 * counts.pentachorons;
-    let pents = Rows {
+    let pents = FlatRows {
         width: 5,
         count: counts.pentachorons,
         list: complex.pents,
     };
-    let edges = Rows {
+    let edges = FlatRows {
         width: 2,
         count: counts.edges,
         list: complex.edges,
     };
-    let triangles = Rows {
+    let triangles = FlatRows {
         width: 3,
         count: counts.triangles,
         list: complex.triangles,

@@ -1,24 +1,55 @@
--- The checks of the builder: what a list that passed them is like. Assumes nothing.
+-- The checks of the builder: their turns, and what a list that passed them is like. Assumes nothing.
 use Rattle.refusals.specs.Refusals.{Done, Outcome}
 use Rattle.std.specs.Prelude.{Err}
-use Prim.Native.Nat.{ℕ, ◌+◌, ◌*◌, ◌/◌, ◌%◌, ◌≤◌}
-use mathlib.Core.Path.{◌≡◌, refl}
+use Prim.Native.Nat.{ℕ, zero, suc, ◌+◌, ◌*◌, ◌-◌, ◌/◌, ◌%◌, ◌<◌, ◌≤◌}
+use mathlib.Core.Path.{◌≡◌, refl, ap, ◌∙◌}
 use mathlib.Core.Bool.{Bool, true, false, not, cond, ◌||◌}
 use mathlib.Core.List.Memᴰ
 use mathlib.Core.List.{List, [], ◌∷◌, Memᴰ}
 use mathlib.Core.Logic.{⊎_elim}
 use native.Mathlib.Omega.{arith}
+use native.Mathlib.Numerals.{add-one}
 use lib.Dec.{eqb, ltb}
-use lib.ListN.{length}
+use lib.ListN.{length, get_or, take, drop}
+use lib.Seq.{drop-drop}
 use borrow.Author.Tests.{eqb-true, ltb-false, not-false}
 use Rattle.refusals.specs.declared.Refusal.{Refusal}
 use Rattle.refusals.specs.declared.Refusal.TheVariants.{VertexCount, ListLength, ShortRoom, VertexTooLarge, RepeatedVertex}
 use Rattle.lists.specs.Lists.{among, Once}
+use Rattle.lists.specs.Rows.{rows}
 use Rattle.lists.proofs.Tests.{denied}
 use Rattle.lists.proofs.Elements.{among-says}
 use Rattle.complex.specs.declared.checks.Rooms.{Rooms}
 use Rattle.complex.specs.Builder.{pentachorons, too_large, repeats, offence, is_short, check_of, Lists, rooms_of}
 use Rattle.complex.specs.Parts.{Buildable}
+
+-- the turn at the pentachoron k of c
+pub offence-turn : (n k c : ℕ) (ps : List ℕ) → k < c
+    → offence n k (rows 5 (c - k) (drop (5 * k) ps))
+    ≡ cond (too_large n (take 5 (drop (5 * k) ps))) (Err (VertexTooLarge k))
+    (cond (repeats (take 5 (drop (5 * k) ps))) (Err (RepeatedVertex k)) (offence n (k + 1) (rows 5 (c - (k + 1)) (drop (5 * (k + 1)) ps))))
+unfolding offence rows
+offence-turn n k c ps h =
+    let a : c - k ≡ suc (c - (k + 1)) = omega arith in
+    let e : 5 * k + 5 ≡ 5 * (k + 1) = omega arith in
+    let b : drop 5 (drop (5 * k) ps) ≡ drop (5 * (k + 1)) ps = drop-drop 5 (5 * k) ps ∙ ap (λ (m : ℕ). drop m ps) e in
+    rw (a, ← b) refl
+
+or_right : (a b : Bool) → b ≡ true → (a || b) ≡ true
+or_right true b h = refl
+or_right false b h = h
+
+-- a vertex stands twice where it stands again after one of its places, and no vertex does where none stands again
+pub repeats-at : (p : List ℕ) (i : ℕ) → i < length p → among (get_or p i 0) (drop (i + 1) p) ≡ true → repeats p ≡ true
+unfolding repeats
+repeats-at [] i h e = absurd (omega arith)
+repeats-at (v ∷ p) zero h e = rw e refl
+repeats-at (v ∷ p) (suc i) h e = or_right (among v p) (repeats p) (repeats-at p i (omega arith) (rw (add-one i) (rw (add-one (suc i)) at e)))
+
+pub repeats-none : (p : List ℕ) → ((i : ℕ) → i < length p → among (get_or p i 0) (drop (i + 1) p) ≡ false) → repeats p ≡ false
+unfolding repeats
+repeats-none [] h = refl
+repeats-none (v ∷ p) h = rw (h 0 (omega arith)) (repeats-none p (λ i l. rw (add-one i) (rw (add-one (suc i)) at (h (suc i) (omega arith)))))
 
 -- ---- what passed
 

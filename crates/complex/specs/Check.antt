@@ -73,7 +73,7 @@ begin_all new l =
     && begins new.edge_to_tris l.edge_to_tris && begins new.edge_to_tris_starts l.edge_to_tris_starts
     && begins new.edge_to_pents l.edge_to_pents && begins new.edge_to_pents_starts l.edge_to_pents_starts
 
--- a complex is built: counts and lists are what the builder answers and writes for the vertex count and the pentachoron list
+-- Built: counts and lists are what the builder answers and writes for the vertex count and the pentachoron list
 unfoldable pub is_built : Counts → Lists → Bool
 is_built c l = leb (5 * c.pentachorons) (length l.pents) && answers (answer_for c l) c && begin_all (written (sorted_pents (given_of c l))) l
 

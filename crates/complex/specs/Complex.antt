@@ -48,7 +48,7 @@ tets ps = faces Tet ps
 
 -- ---- adjacency
 
--- the numbers of the rows in which s lies, ascending: s lies in a row where all its vertices are among the row's
+-- the numbers of the rows in which s lies, ascending. Lies in: all vertices of s are among the row's
 unfoldable pub holding : List (List ℕ) → List ℕ → List ℕ
 holding rs s = keep (λ i. within s (get_or rs i [])) (upto (length rs))
 

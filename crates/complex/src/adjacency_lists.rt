@@ -3,7 +3,7 @@ ghost use Rattle.std.specs.Prelude.{◌≡◌, ◌*◌, ◌%◌, ◌<◌, length
 ghost use Rattle.complex.specs.Parts.{edge_at, Consistent, EdgesOf, Adjacent};
 ghost use Rattle.complex.specs.Lent.{SameLists, Grouped};
 
-use crate::ListsMut;
+use crate::{FaceCounts, Incidence, ListsMut};
 use lists::group;
 
 // Where each triangle's three edges stand among the ten edges of its pentachoron.
@@ -43,16 +43,14 @@ fn edges_of_triangles(pent_edges: &[u32], pent_tris: &[u32], tri_edges: &mut [u3
     }
 }
 
-// The three adjacency lists. `tri_edges` gets the numbers of the edges of each triangle.
+// The three adjacency lists, from the numbers of the faces of each pentachoron and how many there are. `tri_edges` gets the numbers of the edges of each triangle.
 pub fn adjacency(
-    pent_edges: &[u32],
-    pent_tris: &[u32],
-    n_edges: usize,
-    n_tris: usize,
+    numbers: &Incidence<'_>,
+    faces: FaceCounts,
     tri_edges: &mut [u32],
     lists: &mut ListsMut<'_>,
 )
-    requires { Adjacent pent_edges.now pent_tris.now n_edges n_tris (length tri_edges.old) (record {
+    requires { Adjacent numbers.now.pent_edges.now numbers.now.pent_tris.now faces.edges faces.triangles (length tri_edges.old) (record {
       tri_to_pents = length lists.old.tri_to_pents_items.now;
       tri_to_pents_starts = length lists.old.tri_to_pents_starts.now;
       edge_to_tris = length lists.old.edge_to_tris_items.now;
@@ -61,18 +59,24 @@ pub fn adjacency(
       edge_to_pents_starts = length lists.old.edge_to_pents_starts.now;
     }) }
     ensures same { SameLists lists.old lists.new }
-    ensures edges { EdgesOf pent_edges.now pent_tris.now tri_edges.new (length pent_tris.now) }
-    ensures lists_after { Grouped pent_edges.now pent_tris.now tri_edges.new n_edges n_tris lists.old lists.new }
+    ensures edges { EdgesOf numbers.now.pent_edges.now numbers.now.pent_tris.now tri_edges.new (length numbers.now.pent_tris.now) }
+    ensures lists_after { Grouped numbers.now.pent_edges.now numbers.now.pent_tris.now tri_edges.new faces.edges faces.triangles lists.old lists.new }
 {
     // Items and starts are lent on before each call: the check reads no field of `lists` while another is lent.
-    edges_of_triangles(pent_edges, pent_tris, tri_edges);
+    edges_of_triangles(numbers.pent_edges, numbers.pent_tris, tri_edges);
     let items = &mut *lists.tri_to_pents_items;
     let starts = &mut *lists.tri_to_pents_starts;
-    group(pent_tris, 10, n_tris, items, starts);
+    group(numbers.pent_tris, 10, faces.triangles, items, starts);
     let items = &mut *lists.edge_to_tris_items;
     let starts = &mut *lists.edge_to_tris_starts;
-    group(&tri_edges[..3 * n_tris], 3, n_edges, items, starts);
+    group(
+        &tri_edges[..3 * faces.triangles],
+        3,
+        faces.edges,
+        items,
+        starts,
+    );
     let items = &mut *lists.edge_to_pents_items;
     let starts = &mut *lists.edge_to_pents_starts;
-    group(pent_edges, 10, n_edges, items, starts);
+    group(numbers.pent_edges, 10, faces.edges, items, starts);
 }

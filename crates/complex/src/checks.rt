@@ -61,12 +61,9 @@ pub fn has(v: u32, pent: &[u32]) -> bool
 fn repeats(pent: &[u32]) -> bool
     ensures { result ≡ repeats pent.now }
 {
-    for (i, v) in pent.iter().enumerate() {
-        if has(*v, &pent[i + 1..]) {
-            return true;
-        }
-    }
-    false
+    pent.iter()
+        .enumerate()
+        .any(|(i, v)| has(*v, &pent[i + 1..]))
 }
 
 // The refusal of the earliest offending pentachoron.

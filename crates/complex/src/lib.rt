@@ -8,7 +8,7 @@ mod sorting;
 
 pub use adjacency_lists::{adjacency, edge_at};
 pub use checks::{Rooms, check, has, too_large};
-pub use numbering::{Face, number_all};
+pub use numbering::{Face, FaceCounts, number_all};
 pub use sorting::{sort_all, sorted};
 
 // How many of each kind a complex has.

@@ -5,7 +5,7 @@ ghost use Rattle.lists.specs.Rows.{rows};
 ghost use Rattle.complex.specs.Complex.{width_of, count_of, faces_of};
 ghost use Rattle.complex.specs.Parts.{Faces, Numbered, AllFaces, AllNumbered};
 
-use lists::meet_rows;
+use lists::{FlatRows, meet_rows};
 
 // The kinds of faces that are numbered.
 #[derive(Clone, Copy)]
@@ -60,19 +60,13 @@ impl Face {
         }
     }
 
-    // The faces of the pentachoron at `at`, and then zeros.
-    pub fn rows_at(self, pents: &[u32], at: usize) -> [u32; 30]
-        requires { at + 5 ≤ length pents.now }
-        ensures faces { rows (width_of self) (count_of self) result ≡ faces_of self (take 5 (drop at pents.now)) }
+    // The same of a pentachoron in a list.
+    pub fn rows_of(self, pent: &[u32]) -> [u32; 30]
+        requires { length pent.now ≡ 5 }
+        ensures faces { rows (width_of self) (count_of self) result ≡ faces_of self pent.now }
         ensures zeros_after { drop (width_of self * count_of self) result ≡ replicate (30 - width_of self * count_of self) 0 }
     {
-        self.rows(
-            pents[at],
-            pents[at + 1],
-            pents[at + 2],
-            pents[at + 3],
-            pents[at + 4],
-        )
+        self.rows(pent[0], pent[1], pent[2], pent[3], pent[4])
     }
 }
 
@@ -88,24 +82,17 @@ pub fn number_faces(
     requires { Faces face (length pents.now / 5) (length pents.now) (length list.old) (length next.old) (length numbers.old) }
     ensures { Numbered face (rows 5 (length pents.now / 5) pents.now) list.old list.new numbers.old numbers.new result }
 {
-    let pentachorons = pents.len() / 5;
-    let w = face.width();
+    let width = face.width();
     let count = face.count();
     let mut head = [0u32; 32768];
     let mut n = 0;
-    for k in 0..pentachorons {
-        let given = face.rows_at(pents, 5 * k);
-        n = meet_rows(
-            list,
-            &mut head,
-            next,
-            n,
-            &given,
-            w,
+    for (k, pent) in pents.chunks_exact(5).enumerate() {
+        let given = FlatRows {
+            width,
             count,
-            numbers,
-            count * k,
-        );
+            list: &face.rows_of(pent),
+        };
+        n = meet_rows(list, &mut head, next, n, &given, numbers, count * k);
     }
     n
 }

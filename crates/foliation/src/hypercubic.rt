@@ -8,7 +8,7 @@ use self::Axis::{T, X, Y, Z};
 use crate::Lattice;
 use crate::coords::{Coords, n_total, vertex_coords_4d, vidx};
 use complex::sorted;
-use lists::{copy_row, meet_rows};
+use lists::{FlatRows, copy_row, meet_rows};
 
 // An axis of the lattice.
 #[derive(Clone, Copy)]
@@ -112,16 +112,10 @@ pub fn list(lattice: Lattice, pents: &mut [u32]) -> usize
     let mut next = [0u32; 8184];
     let mut numbers = [0u32; 8184];
     write_paths(lattice, &mut given);
-    let count = 24 * n_total(lattice);
-    meet_rows(
-        pents,
-        &mut head,
-        &mut next,
-        0,
-        &given,
-        5,
-        count,
-        &mut numbers,
-        0,
-    )
+    let paths = FlatRows {
+        width: 5,
+        count: 24 * n_total(lattice),
+        list: &given,
+    };
+    meet_rows(pents, &mut head, &mut next, 0, &paths, &mut numbers, 0)
 }

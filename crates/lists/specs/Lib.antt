@@ -2,6 +2,7 @@
 pub mod Lists
 pub mod Keys
 pub mod Rows
+pub mod Lent
 pub mod Sorting
 pub mod Chains
 pub mod Groups

@@ -2,10 +2,12 @@
 // their places.
 #![tactic(auto)]
 
+mod flat_rows;
 mod groups;
 mod matching;
 mod numbering;
 
+pub use flat_rows::FlatRows;
 pub use groups::group;
 pub use matching::match_rows;
 pub use numbering::{copy_row, meet_rows, same_row};

@@ -1,9 +1,10 @@
 // Rows met in a list as it is: the same search by chains, but nothing is stored in the list.
 // The list, `head` and `next` stay parameters of their own: each is lent by itself, in fixed memory of a caller or of C.
 ghost use Rattle.std.specs.Prelude.{[], ◌∷◌, ◌*◌, ◌≤◌, length};
-ghost use Rattle.lists.specs.Rows.{rows};
+ghost use Rattle.lists.specs.Lent.{rows_of};
 ghost use Rattle.lists.specs.Chains.{Comparable, Compared};
 
+use crate::flat_rows::FlatRows;
 use crate::numbering::{chain_of, find_row, link_row, same_row};
 
 // A row is met in a list of `most` rows as it is: it is one of the first n, or it has to be row n. Its number goes to
@@ -37,7 +38,7 @@ fn match_row(
     Some(n + 1)
 }
 
-// The first `count` rows of w numbers in `given` are met, in order, in a list of `most` rows as it is. Their numbers go to
+// The given rows are met, in order, in a list of `most` rows as it is. Their numbers go to
 // `numbers` from `at` on. Answers how many of its rows are known then, and nothing where the list has other rows.
 pub fn match_rows(
     list: &[u32],
@@ -45,29 +46,17 @@ pub fn match_rows(
     next: &mut [u32],
     n: usize,
     most: usize,
-    given: &[u32],
-    w: usize,
-    count: usize,
+    given: &FlatRows<'_>,
     numbers: &mut [u32],
     at: usize,
 ) -> Option<usize>
-    requires { (w * count ≤ length given.now) × Comparable w list.now head.old next.old numbers.old n most at count }
-    ensures { Compared w list.now head.new next.new numbers.old numbers.new n most at (rows w count given.now) result }
+    requires { Comparable given.now.width list.now head.old next.old numbers.old n most at given.now.count }
+    ensures { Compared given.now.width list.now head.new next.new numbers.old numbers.new n most at (rows_of given.now) result }
 {
     let mut m = n;
-    // No `chunks_exact`: w may be 0.
-    for q in 0..count {
-        let from = w * q;
-        m = match_row(
-            list,
-            head,
-            next,
-            m,
-            most,
-            &given[from..from + w],
-            numbers,
-            at + q,
-        )?;
+    // No `chunks_exact`: a width may be 0.
+    for q in 0..given.count {
+        m = match_row(list, head, next, m, most, given.row(q), numbers, at + q)?;
     }
     Some(m)
 }

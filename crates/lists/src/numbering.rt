@@ -2,8 +2,11 @@
 // The list, `head` and `next` stay parameters of their own: each is lent by itself, in fixed memory of a caller or of C.
 ghost use Rattle.std.specs.Prelude.{◌≡◌, [], ◌∷◌, ◌++◌, ◌+◌, ◌*◌, ◌≤◌, ◌<◌, length, slice_index, slice_set, take, drop};
 ghost use Rattle.lists.specs.Keys.{eqs, find};
+ghost use Rattle.lists.specs.Lent.{rows_of};
 ghost use Rattle.lists.specs.Rows.{rows};
 ghost use Rattle.lists.specs.Chains.{hash, Indexed, Ready, Met};
+
+use crate::flat_rows::FlatRows;
 
 // The chain that a row is in.
 pub fn chain_of(row: &[u32]) -> usize
@@ -97,27 +100,24 @@ fn meet_row(
     n + 1
 }
 
-// The first `count` rows of w numbers in `given` are met, in order. Their numbers go to `numbers` from `at` on.
+// The given rows are met, in order. Their numbers go to `numbers` from `at` on.
 // Answers how many rows there are now.
 pub fn meet_rows(
     list: &mut [u32],
     head: &mut [u32],
     next: &mut [u32],
     n: usize,
-    given: &[u32],
-    w: usize,
-    count: usize,
+    given: &FlatRows<'_>,
     numbers: &mut [u32],
     at: usize,
 ) -> usize
-    requires { (w * count ≤ length given.now) × Ready w list.old head.old next.old numbers.old n at count }
-    ensures { Met w list.old list.new head.new next.new numbers.old numbers.new n at (rows w count given.now) result }
+    requires { Ready given.now.width list.old head.old next.old numbers.old n at given.now.count }
+    ensures { Met given.now.width list.old list.new head.new next.new numbers.old numbers.new n at (rows_of given.now) result }
 {
     let mut m = n;
-    // No `chunks_exact`: w may be 0.
-    for q in 0..count {
-        let from = w * q;
-        m = meet_row(list, head, next, m, &given[from..from + w], numbers, at + q);
+    // No `chunks_exact`: a width may be 0.
+    for q in 0..given.count {
+        m = meet_row(list, head, next, m, given.row(q), numbers, at + q);
     }
     m
 }

@@ -5,7 +5,7 @@ use mathlib.Core.Bool.{true}
 use mathlib.Core.List.{[]}
 use lib.ListN.{get_or}
 use Rattle.comparison.specs.CheckParts.{part_lies}
-use Rattle.comparison.specs.Parts.{rows_of}
+use Rattle.lists.specs.Lent.{rows_of}
 use Rattle.comparison.proofs.holding.is_holding.Given as goal
 
 abbrev pub invariant-loop-j : goal.invariant-loop-j

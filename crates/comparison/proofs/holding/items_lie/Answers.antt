@@ -5,7 +5,7 @@ use lib.ListN.{get_or, drop_of_length-le}
 use borrow.Author.Tests.{lt-leb, le-leb, lt-ltb, le-ltb}
 use Rattle.lists.proofs.Rows.{length-rows}
 use Rattle.comparison.specs.CheckParts.{lying}
-use Rattle.comparison.specs.Parts.{rows_of}
+use Rattle.lists.specs.Lent.{rows_of}
 use Rattle.comparison.proofs.Holdings.{lying-turn}
 use Rattle.comparison.proofs.holding.items_lie.Goals as goal
 use Rattle.comparison.proofs.holding.items_lie.Goals.{then-item-low-via-then-item-low, then-item-low-via-else-item-low+then-rows-item, then-item-low-via-else-item-low+else-rows-item+then-not-lies_in}

@@ -2,7 +2,7 @@
 use mathlib.Core.Path.{◌≡◌}
 use lib.ListN.{drop}
 use Rattle.comparison.specs.CheckParts.{lying}
-use Rattle.comparison.specs.Parts.{rows_of}
+use Rattle.lists.specs.Lent.{rows_of}
 use Rattle.comparison.proofs.holding.items_lie.Given as goal
 
 abbrev pub invariant-loop-item : goal.invariant-loop-item

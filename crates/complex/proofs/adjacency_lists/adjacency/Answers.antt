@@ -8,5 +8,5 @@ group-requires-2 c =
     let a = c.args in
     let p = c.requires in
     let f = c.edges_of_triangles in
-    can-group-triangles a.pent_edges.now a.pent_tris.now f.new.tri_edges a.n_edges a.n_tris (length a.tri_edges.now) _ p f.auto.tri_edges f.ensures
+    can-group-triangles a.numbers.now.pent_edges.now a.numbers.now.pent_tris.now f.new.tri_edges a.faces.edges a.faces.triangles (length a.tri_edges.now) _ p f.auto.tri_edges f.ensures
     (length a.lists.now.edge_to_tris_items.now) (length a.lists.now.edge_to_tris_starts.now) p.room_et p.room_et_starts

@@ -1,21 +1,25 @@
 -- `complex::checks::repeats` meets its contract. Assumes nothing.
-use Prim.Native.Nat.{◌+◌}
-use mathlib.Core.Path.{refl, sym, ap, ◌∙◌}
+use Prim.Native.Nat.{ℕ, ◌+◌, ◌-◌, ◌<◌}
+use mathlib.Core.Path.{◌≡◌, refl, sym, ap, ◌∙◌}
+use mathlib.Core.Bool.{Bool, true, false}
 use native.Mathlib.Omega.{arith}
+use lib.ListN.{length, get_or, take, drop}
+use Rattle.std.proofs.Common.{rules}
 use Rattle.complex.specs.Builder.{repeats}
 use Rattle.lists.specs.Lists.{among}
-use Rattle.lists.proofs.Fronts.{some-here, some_next, some-none}
 use Rattle.lists.proofs.Rows.{part-tail}
+use Rattle.complex.proofs.Offences.{repeats-at, repeats-none}
 use Rattle.complex.proofs.checks.repeats.Goals as goal
 
-pub returns-then-has : goal.returns-then-has
-unfolding repeats
-returns-then-has c = let a = c.args in let l = c.loop-i in sym (some-here repeats (λ x l. among x l) (λ x l. refl) a.pent.now l.i (omega arith) (sym (c.has.ensures ∙ ap (among _) (part-tail a.pent.now (l.i + 1))) ∙ c.if-has.true) l.invariant)
-
-pub loop-i-preserved : goal.loop-i-preserved
-unfolding repeats
-loop-i-preserved c = let a = c.args in let l = c.loop-i in some_next repeats (λ x l. among x l) (λ x l. refl) a.pent.now l.i (omega arith) (sym (c.has.ensures ∙ ap (among _) (part-tail a.pent.now (l.i + 1))) ∙ c.if-has.false) l.invariant
-
 pub returns : goal.returns
-unfolding repeats
-returns c = let l = c.loop-i in sym (some-none repeats (λ x l. among x l) (λ x l. refl) c.args.pent.now l.i (omega arith) refl l.invariant)
+returns c =
+    let p = c.args.pent.now in
+    let some : c.any.result ≡ true → (i : ℕ) × (i < length p) × (among (get_or p i 0) (take (length p - (i + 1)) (drop (i + 1) p)) ≡ true) = search rules in
+    let none : c.any.result ≡ false → (i : ℕ) → i < length p → among (get_or p i 0) (take (length p - (i + 1)) (drop (i + 1) p)) ≡ false = search rules in
+    by c.any.result
+    (λ e. let s = some e in repeats-at p s.0 s.1 (sym (ap (among _) (part-tail p (s.0 + 1))) ∙ s.2))
+    (λ e. repeats-none p (λ i h. sym (ap (among _) (part-tail p (i + 1))) ∙ none e i h))
+  where
+    by : {q : Bool} (r : Bool) → (r ≡ true → q ≡ true) → (r ≡ false → q ≡ false) → r ≡ q
+    by true f g = sym (f refl)
+    by false f g = sym (g refl)

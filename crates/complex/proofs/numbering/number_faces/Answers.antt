@@ -4,10 +4,13 @@ use mathlib.Core.Path.{◌≡◌, refl}
 use native.Mathlib.Nat.{mul-le-mul_left}
 use native.Mathlib.Omega.{arith}
 use lib.ListN.{length, take, drop}
+use Rattle.std.proofs.Common.{rules}
+use Rattle.std.specs.Iterator.Adapters.{enumerate_count}
 use Rattle.complex.specs.Complex.{width_of, count_of, faces_of, met_faces}
 use Rattle.lists.specs.Lists.{gather}
 use Rattle.lists.specs.Rows.{rows}
-use Rattle.complex.proofs.Meetings.{length-met-rows, met_next, ready-none, numbered-all, faces-fit, face-below}
+use Rattle.complex.proofs.Fives.{five-first, five-taken, five-next, five-last}
+use Rattle.complex.proofs.Meetings.{length-met-rows, met_next, ready-none, numbered-all, face-below}
 use Rattle.lists.proofs.Chains.{met-none, met-trans, ready-next}
 use Rattle.complex.proofs.numbering.number_faces.Goals as goal
 
@@ -16,8 +19,12 @@ unfolding rows met_faces gather
 loop-k-init c =
     let a = c.args in
     let f = a.face in
-    let ready = ready-none f (length a.pents.now / 5) (length a.pents.now) a.list.now _ a.next.now a.numbers.now 32768 refl refl c.requires in
-    record { ready = ready; met = met-none (width_of f) a.list.now _ a.next.now a.numbers.now 0 0 ready.indexed }
+    let z : enumerate_count c.into_iter-k-iterator.result ≡ 0 = search rules in
+    let ready = ready-none f (length a.pents.now / 5) (length a.pents.now) a.list.now _ a.next.now a.numbers.now 32768 refl refl c.requires in record {
+      at = five-first (search rules) (search rules) z;
+      ready = ready;
+      met = rw z (met-none (width_of f) a.list.now _ a.next.now a.numbers.now 0 0 ready.indexed);
+    }
 
 pub meet_rows-n-requires : goal.meet_rows-n-requires
 meet_rows-n-requires c =
@@ -25,28 +32,35 @@ meet_rows-n-requires c =
     let f = a.face in
     let P = length a.pents.now / 5 in
     let l = c.loop-k in
-    let many = length-met-rows f l.k a.pents.now (omega arith) in
-    let below = face-below f l.k P (omega arith) in
-    rw (c.width-w.ensures, c.count-count.ensures) (
-      omega (arith, faces-fit f),
-      ready-next (width_of f) a.list.now l.list _ l.head a.next.now l.next a.numbers.now l.numbers 0 l.n 0 (count_of f * l.k) (count_of f * P) (count_of f) (met_faces f (rows 5 l.k a.pents.now))
-          l.invariant.ready l.invariant.met (omega (arith, many)) (omega (arith, many)) (omega arith) (omega arith) (omega arith),
-    )
+    let i = l.invariant in
+    let s = c.in-Some.ensures.steps in
+    let k = enumerate_count l.k-iterator in
+    let t = five-taken i.at s.0.1.0 s.0.1.1 in
+    let many = length-met-rows f k a.pents.now (omega (arith, t.2)) in
+    let below = face-below f k P (omega (arith, t.2)) in
+    rw (c.width-width.ensures, c.count-count.ensures, s.1)
+    (ready-next (width_of f) a.list.now l.list _ l.head a.next.now l.next a.numbers.now l.numbers 0 l.n 0 (count_of f * k) (count_of f * P) (count_of f) (met_faces f (rows 5 k a.pents.now))
+    i.ready i.met (omega (arith, many)) (omega (arith, many)) (omega arith) (omega arith) (omega arith))
 
 pub loop-k-preserved : goal.loop-k-preserved
 loop-k-preserved c =
     let a = c.args in
     let f = a.face in
     let l = c.loop-k in
-    let many = length-met-rows f l.k a.pents.now (omega arith) in
-    let below = face-below f l.k (length a.pents.now / 5) (omega arith) in
+    let i = l.invariant in
+    let s = c.in-Some.ensures.steps in
+    let k = enumerate_count l.k-iterator in
+    let t = five-taken i.at s.0.1.0 s.0.1.1 in
+    let many = length-met-rows f k a.pents.now (omega (arith, t.2)) in
+    let below = face-below f k (length a.pents.now / 5) (omega (arith, t.2)) in
     let g = c.meet_rows-n in
-    let all = rw c.rows_at-given.ensures.faces at (rw c.count-count.ensures at (rw c.width-w.ensures at g.ensures)) in record {
-      ready = l.invariant.ready;
+    let all = rw t.0 at (rw c.rows_of.ensures.faces at (rw s.1 at (rw c.count-count.ensures at (rw c.width-width.ensures at g.ensures)))) in record {
+      at = five-next c.in-Some.pent.now i.at s.0.1.0 s.0.1.1 s.0.0 s.2;
+      ready = i.ready;
       met =
-          rw (met_next f l.k a.pents.now)
-          (met-trans (width_of f) a.list.now l.list l.head l.next g.new.list g.new.head g.new.next a.numbers.now l.numbers g.new.numbers 0 l.n g.result 0 (count_of f * l.k) (met_faces f (rows 5 l.k a.pents.now)) (faces_of f (take 5 (drop (5 * l.k) a.pents.now)))
-          l.invariant.met all (omega (arith, many)) (omega (arith, c.requires.searched.numbered)));
+          rw (s.2, met_next f k a.pents.now)
+          (met-trans (width_of f) a.list.now l.list l.head l.next g.new.list g.new.head g.new.next a.numbers.now l.numbers g.new.numbers 0 l.n g.result 0 (count_of f * k) (met_faces f (rows 5 k a.pents.now)) (faces_of f (take 5 (drop (5 * k) a.pents.now)))
+          i.met all (omega (arith, many)) (omega (arith, c.requires.searched.numbered)));
     }
 
 pub returns : goal.returns
@@ -55,7 +69,7 @@ returns c =
     let f = a.face in
     let P = length a.pents.now / 5 in
     let l = c.loop-k in
-    let e : l.k ≡ P = omega arith in
+    let e : enumerate_count l.k-iterator ≡ P = five-last l.invariant.at c.in-None.ensures.steps.0.1.0 in
     let met = rw e at l.invariant.met in
     let many = length-met-rows f P a.pents.now (omega arith) in
     let few : l.n ≤ count_of f * P = omega (arith, met.to) in

@@ -1,13 +1,18 @@
 -- `complex::numbering::number_faces` meets its contract. The loop's invariant: the faces of the first k pentachorons are met. Assumes nothing.
 use Prim.Native.Nat.{◌*◌, ◌/◌}
 use lib.ListN.{length}
+use Rattle.std.specs.Slice.Iter.{chunks_exact_rest, chunks_exact_size}
+use Rattle.std.specs.Iterator.Adapters.{enumerate_source, enumerate_count}
 use Rattle.complex.specs.Complex.{width_of, count_of, met_faces}
 use Rattle.lists.specs.Chains.{Ready, Met}
 use Rattle.lists.specs.Rows.{rows}
+use Rattle.complex.proofs.Fives.{AtFive}
 use Rattle.complex.proofs.numbering.number_faces.Given as goal
 
 abbrev pub invariant-loop-k : goal.invariant-loop-k
-invariant-loop-k l = record {
-  ready : Ready (width_of l.face) l.initial.list l.initial.head l.initial.next l.initial.numbers 0 0 (count_of l.face * (length l.pents / 5));
-  met : Met (width_of l.face) l.initial.list l.list l.head l.next l.initial.numbers l.numbers 0 0 (met_faces l.face (rows 5 l.k l.pents)) l.n;
-}
+invariant-loop-k l =
+    let k = enumerate_count l.k-iterator in record {
+      at : AtFive l.pents (chunks_exact_rest (enumerate_source l.k-iterator)) (chunks_exact_size (enumerate_source l.k-iterator)) k;
+      ready : Ready (width_of l.face) l.initial.list l.initial.head l.initial.next l.initial.numbers 0 0 (count_of l.face * (length l.pents / 5));
+      met : Met (width_of l.face) l.initial.list l.list l.head l.next l.initial.numbers l.numbers 0 0 (met_faces l.face (rows 5 k l.pents)) l.n;
+    }

@@ -15,19 +15,21 @@ write_paths-requires c =
     let l = c.args.lattice in
     (p.0, paths-room l (lawful l p.0) (replicate 40920 0) (replicate 40920 0) 40920 refl refl refl)
 
-pub overflow_mul-count : goal.overflow_mul-count
-overflow_mul-count c = omega (arith, c.n_total-count.ensures, (lawful c.args.lattice c.requires.0).cells)
+pub overflow_mul-paths : goal.overflow_mul-paths
+overflow_mul-paths c = omega (arith, c.n_total.ensures, (lawful c.args.lattice c.requires.0).cells)
+
+pub invariant_of-paths : goal.invariant_of-paths
+invariant_of-paths c =
+    let p = c.requires in
+    let l = c.args.lattice in
+    let w = c.write_paths in
+    rw c.n_total.ensures (record { inside = omega (arith, paths-room l (lawful l p.0) _ w.new.given 40920 refl refl w.auto.given) })
 
 pub meet_rows-requires : goal.meet_rows-requires
 meet_rows-requires c =
     let p = c.requires in
     let l = c.args.lattice in
-    let ok = lawful l p.0 in
-    let w = c.write_paths in
-    rw c.n_total-count.ensures (
-      omega (arith, paths-room l ok _ w.new.given 40920 refl refl w.auto.given),
-      ready-all l ok _ _ _ _ 32768 8184 refl refl refl refl refl p.1,
-    )
+    rw c.n_total.ensures (ready-all l (lawful l p.0) _ _ _ _ 32768 8184 refl refl refl refl refl p.1)
 
 pub returns : goal.returns
 returns c =
@@ -36,5 +38,5 @@ returns c =
     let ok = lawful l p.0 in
     let w = c.write_paths in
     let m = c.meet_rows in
-    let e : rows 5 (24 * c.n_total-count.result) w.new.given ≡ paths l = rw c.n_total-count.ensures (paths-back l ok w.new.given _ w.ensures) in
+    let e : rows 5 (24 * c.n_total.result) w.new.given ≡ paths l = rw c.n_total.ensures (paths-back l ok w.new.given _ w.ensures) in
     met-pents l ok _ _ _ _ _ _ _ (rw e at m.ensures) m.auto.list p.1

@@ -6,6 +6,6 @@ use Rattle.lists.proofs.matching.match_rows.Given as goal
 
 abbrev pub invariant-loop-q : goal.invariant-loop-q
 invariant-loop-q l = record {
-  met : Met l.w l.list l.list l.head l.next l.initial.numbers l.numbers l.n l.at (rows l.w l.q l.given) l.m;
+  met : Met l.given.width l.list l.list l.head l.next l.initial.numbers l.numbers l.n l.at (rows l.given.width l.q l.given.list.now) l.m;
   few : l.m ≤ l.most;
 }

@@ -4,4 +4,4 @@ use Rattle.lists.specs.Rows.{rows}
 use Rattle.lists.proofs.numbering.meet_rows.Given as goal
 
 abbrev pub invariant-loop-q : goal.invariant-loop-q
-invariant-loop-q l = Met l.w l.initial.list l.list l.head l.next l.initial.numbers l.numbers l.n l.at (rows l.w l.q l.given) l.m
+invariant-loop-q l = Met l.given.width l.initial.list l.list l.head l.next l.initial.numbers l.numbers l.n l.at (rows l.given.width l.q l.given.list.now) l.m

@@ -4,14 +4,14 @@ ghost use Rattle.lists.specs.Rows.{rows};
 
 // Rows of one width, one after the other in a flat list, which may go on past them.
 #[derive(Clone, Copy)]
-pub struct Rows<'a> {
+pub struct FlatRows<'a> {
     pub width: usize,
     pub count: usize,
     pub list: &'a [u32],
     ghost inside: { width * count ≤ length list.now },
 }
 
-impl Rows<'_> {
+impl FlatRows<'_> {
     // Row i.
     pub fn row(&self, i: usize) -> &[u32]
         requires { i < self.now.count }
