@@ -39,7 +39,7 @@ pub enum Refusal {
 }
 
 impl Refusal {
-    // The number of the refused condition.
+    // The number of the refused condition. By a match: a case that holds a place has no number of its own to convert to.
     pub fn number(self) -> u32
         ensures { result ≡ number_of self }
     {
