@@ -21,7 +21,7 @@ pub enum HingeType {
 }
 
 impl HingeType {
-    // 0 for Spacelike, 1 for Timelike.
+    // 0 for Spacelike, 1 for Timelike: the byte that C takes. A method, since `u8::from(kind)` would not say what the number is.
     pub fn number(self) -> u8
         ensures { result ≡ kind_number self }
     {
@@ -69,7 +69,7 @@ impl Dihedral {
         }
     }
 
-    // The number of its kind.
+    // The number of its kind, which C takes.
     pub fn kind_number(self) -> u8
         ensures { result ≡ kind_number_of self }
     {
@@ -210,7 +210,7 @@ pub fn value_in(answer: &Result<Dihedral, Refusal>, other: f64) -> f64
     answer.map_or(other, Dihedral::value)
 }
 
-// The number of the kind of an answer's dihedral, or `other` for a refusal.
+// The number of the kind of an answer's dihedral, which C takes, or `other` for a refusal.
 pub fn kind_in(answer: &Result<Dihedral, Refusal>, other: u8) -> u8
     ensures { result ≡ kind_or answer.now other }
 {
