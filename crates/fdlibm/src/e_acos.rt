@@ -1,4 +1,4 @@
-// e_acos.c: the angle whose cosine is x.
+// e_acos.c: the angle whose cosine is x. In the C's own form, beside which it is read.
 ghost use Rattle.std.specs.Prelude.{◌≡◌};
 ghost use Rattle.fdlibm.specs.Acos.{ratio_of, acos_above, acos_below, acos_of};
 

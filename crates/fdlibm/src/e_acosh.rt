@@ -1,4 +1,4 @@
-// e_acosh.c: the inverse of the hyperbolic cosine.
+// e_acosh.c: the inverse of the hyperbolic cosine. In the C's own form, beside which it is read.
 ghost use Rattle.std.specs.Prelude.{◌≡◌};
 ghost use Rattle.fdlibm.specs.Acosh.{acosh_of};
 

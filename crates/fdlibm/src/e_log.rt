@@ -1,4 +1,4 @@
-// e_log.c: the logarithm. C's k is held as k + 1077, which is never negative.
+// e_log.c: the logarithm. In the C's own form, beside which it is read, but that C's k is held as k + 1077, which is never negative.
 ghost use Rattle.std.specs.Prelude.{◌≡◌, ◌<◌};
 ghost use Rattle.fdlibm.specs.Log.{log_near, log_far, log_from, log_of};
 

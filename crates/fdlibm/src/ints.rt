@@ -1,4 +1,4 @@
-// C's int, held as the 32-bit word that it is: its order, its `|`, and its double.
+// C's int, held as the 32-bit word that it is: its order, its `|`, and its double. In the C's own form, beside which it is read.
 ghost use Rattle.std.specs.Prelude.{◌≡◌};
 ghost use Rattle.fdlibm.specs.Ints.{◌<ˢ◌, ◌≤ˢ◌, words_are, dk};
 

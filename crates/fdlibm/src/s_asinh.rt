@@ -1,4 +1,4 @@
-// s_asinh.c: the inverse of the hyperbolic sine.
+// s_asinh.c: the inverse of the hyperbolic sine. In the C's own form, beside which it is read.
 ghost use Rattle.std.specs.Prelude.{◌≡◌};
 ghost use Rattle.fdlibm.specs.Asinh.{asinh_size, asinh_of};
 

@@ -1,4 +1,5 @@
-// s_log1p.c: the logarithm of 1 + x. C's k is held as k + 1077, which is never negative.
+// s_log1p.c: the logarithm of 1 + x. In the C's own form, beside which it is read, but that C's k is held as k + 1077, which is never
+// negative.
 ghost use Rattle.std.specs.Prelude.{◌≡◌};
 ghost use Rattle.fdlibm.specs.Log1p.{log1p_tail, log1p_scaled, log1p_sum, log1p_wide, log1p_of};
 

@@ -68,13 +68,13 @@ fn expand<const N: usize, D: Fn(usize) -> f64>(row: &[f64; N], minor: D) -> f64
     ensures { (m : List (List Float)) (f : List (List Float) → Float) (n : ℕ) → get_or m 0 [] ≡ row.now → GivesMinors (D.post minor) f n m N → result ≡ expand doubles f n m N }
 {
     let mut sum = 0.0;
-    for col in 0..N {
-        sum += sign_of(0, col) * row[col] * minor(col);
+    for (col, entry) in row.iter().enumerate() {
+        sum += sign_of(0, col) * entry * minor(col);
     }
     sum
 }
 
-// Determinant of a 3 × 3 matrix.
+// Determinant of a 3 × 3 matrix. Written out: its order of operations is not that of `expand`.
 fn det_3x3(m: &[[f64; 3]; 3]) -> f64
     ensures { result ≡ det3 doubles m.now }
 {

@@ -10,8 +10,7 @@ use lorentzian::{Dihedral, dihedral_by_root, ten_dihedrals};
 pub fn all_lorentzian_dihedrals(s: &[f64; 10]) -> [Dihedral; 10]
     ensures { result ≡ all_dihedrals s.now }
 {
-    // A closure, as the check does not know another crate's function by its name alone.
-    ten_dihedrals(s, |c_lm, c_ll, c_mm| dihedral_by_root(c_lm, c_ll, c_mm))
+    ten_dihedrals(s, dihedral_by_root)
 }
 
 // ---- ten dihedrals as plain lists, which C is given: a list of numbers and one of kinds

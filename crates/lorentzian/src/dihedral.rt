@@ -1,12 +1,13 @@
 // Dihedrals by both rules: from three cofactors, and from two vertices of a pentachoron.
-ghost use Rattle.std.specs.Prelude.{◌≡◌, ◌<◌, Float};
-ghost use Rattle.lorentzian.specs.Dihedral.{kind_number, kind_of, value_of, kind_number_of, ratio_of, of_ratio, of_mixed, compute_dihedral, dihedral_by_root, Gives, dihedral_by, pairs, dihedral_answer, value_or, kind_or};
+ghost use Rattle.std.specs.Prelude.{◌≡◌, ◌<◌, Float, Some};
+ghost use Rattle.lorentzian.specs.Dihedral.{kind_number, kind_text, kind_of, value_of, kind_number_of, ratio_of, of_ratio, of_mixed, compute_dihedral, dihedral_by_root, Gives, dihedral_by, pairs, dihedral_answer, value_or, kind_or};
 
 use fdlibm::{acos, acosh, asinh};
 use floats::{abs, clamp_unit, signum};
 use geometry::{cm_cofactors, cm_matrix_signed, cofactor_at};
 use refusals::Refusal;
 use root::root;
+use std::fmt;
 
 // ---- the cases
 
@@ -20,11 +21,23 @@ pub enum HingeType {
 }
 
 impl HingeType {
-    // 0 for Spacelike, 1 for Timelike.
+    // 0 for Spacelike, 1 for Timelike: the byte that C takes. A method, since `u8::from(kind)` would not say what the number is.
     pub fn number(self) -> u8
         ensures { result ≡ kind_number self }
     {
         self as u8
+    }
+}
+
+// As the programs print it: the letter S or T.
+impl fmt::Display for HingeType {
+    ghost output = { λ kind. Some (kind_text kind) };
+
+    fn fmt<W: fmt::Write>(&self, f: &mut fmt::Formatter<W>) -> fmt::Result {
+        f.write_str(match self {
+            HingeType::Spacelike => "S",
+            HingeType::Timelike => "T",
+        })
     }
 }
 
@@ -56,7 +69,7 @@ impl Dihedral {
         }
     }
 
-    // The number of its kind.
+    // The number of its kind, which C takes.
     pub fn kind_number(self) -> u8
         ensures { result ≡ kind_number_of self }
     {
@@ -197,7 +210,7 @@ pub fn value_in(answer: &Result<Dihedral, Refusal>, other: f64) -> f64
     answer.map_or(other, Dihedral::value)
 }
 
-// The number of the kind of an answer's dihedral, or `other` for a refusal.
+// The number of the kind of an answer's dihedral, which C takes, or `other` for a refusal.
 pub fn kind_in(answer: &Result<Dihedral, Refusal>, other: u8) -> u8
     ensures { result ≡ kind_or answer.now other }
 {

@@ -3,7 +3,8 @@
 // 23, 24, 34. No function that C calls has a `requires`; NaN and infinities are lawful lengths.
 #![tactic(auto)]
 
-mod dihedral;
+// Public, so that a crate above can pass a rule by its name.
+pub mod dihedral;
 mod triangle;
 
 pub use dihedral::{
