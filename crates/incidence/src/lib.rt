@@ -26,6 +26,15 @@ pub struct PentachoronNumber(pub u32);
 #[derive(Clone, Copy, Debug, PartialEq, Eq)]
 pub struct TriangleEdges(pub EdgeNumber, pub EdgeNumber, pub EdgeNumber);
 
+impl TriangleEdges {
+    // The three numbers.
+    pub fn numbers(&self) -> [u32; 3]
+        ensures { result ≡ edge_list self.now }
+    {
+        [self.0.0, self.1.0, self.2.0]
+    }
+}
+
 // The local indices of two vertices of a pentachoron.
 #[derive(Clone, Copy, Debug, PartialEq, Eq)]
 pub struct Opposite {
