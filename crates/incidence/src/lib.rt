@@ -109,6 +109,7 @@ fn ten<'a>(numbers: &'a [u32], i: usize) -> &'a [u32]
     requires { 10 * i + 10 ≤ length numbers.now }
     ensures { result.now ≡ take 10 (drop (10 * i) numbers.now) }
 {
+    // By its bounds: `chunks_exact(10).nth(i)` gives an Option, to be unwrapped by a proof of the same bounds.
     &numbers[10 * i..10 * i + 10]
 }
 
