@@ -68,8 +68,13 @@ returns-in_err-check_free c =
 pub mark_tris-requires : goal.mark_tris-requires
 mark_tris-requires c = let p = passed (goal.at.mark_tris-requires c).In_ok-check_free in (p.on_triangles, p.below, p.measured.few)
 
+pub slice_bounds-marks-end : goal.slice_bounds-marks-end
+slice_bounds-marks-end c = omega (arith, (passed (goal.at.slice_bounds-marks-end c).In_ok-check_free).measured.few, c.mark_tris.auto.marks)
+
 pub slice_bounds-own-end : goal.slice_bounds-own-end
-slice_bounds-own-end c = omega (arith, (passed (goal.at.slice_bounds-own-end c).In_ok-check_free).measured.few, c.mark_tris.auto.marks)
+slice_bounds-own-end c =
+    let few = (passed (goal.at.slice_bounds-own-end c).In_ok-check_free).measured.few in
+    omega (arith, few, c.mark_tris.auto.marks, length-take-le c.args.built.now.complex.counts.triangles c.mark_tris.new.marks (omega (arith, few, c.mark_tris.auto.marks)))
 
 pub returns-in_err-check_room : goal.returns-in_err-check_room
 returns-in_err-check_room c =

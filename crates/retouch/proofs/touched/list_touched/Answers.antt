@@ -16,7 +16,11 @@ mark_touched-requires c =
     (p.0, p.1, p.2, p.3, scratch-room {A = Bool} 81920 refl false _ refl c.args.complex.now.counts.triangles p.4)
 
 pub slice_bounds-own-end : goal.slice_bounds-own-end
-slice_bounds-own-end c = omega (arith, scratch-room {A = Bool} 81920 refl false _ refl c.args.complex.now.counts.triangles c.requires.4, c.mark_touched.auto.marks)
+slice_bounds-own-end c =
+    let n = c.args.complex.now.counts.triangles in
+    let marks = c.mark_touched.new.marks in
+    let room : n ≤ length marks = omega (arith, scratch-room {A = Bool} 81920 refl false _ refl n c.requires.4, c.mark_touched.auto.marks) in
+    omega (arith, room, length-take-le n marks room)
 
 pub list_marked-requires : goal.list_marked-requires
 list_marked-requires c =
