@@ -5,6 +5,7 @@ ghost use Rattle.incidence.specs.Incidence.{edge_list};
 ghost use Rattle.hinges.specs.Hinges.{lengths_at};
 ghost use Rattle.hinges.specs.Action.{abs_area};
 
+use crate::pentachoron::sq_lengths_at;
 use floats::abs;
 use incidence::TriangleEdges;
 use lorentzian::triangle_area_sq_lorentzian;
@@ -15,11 +16,7 @@ pub fn tri_sq_lengths(edges: TriangleEdges, sq_lengths: &[f64]) -> [f64; 3]
     requires { Below (edge_list edges) (length sq_lengths.now) }
     ensures { result ≡ lengths_at sq_lengths.now (edge_list edges) }
 {
-    [
-        sq_lengths[edges.0.0 as usize],
-        sq_lengths[edges.1.0 as usize],
-        sq_lengths[edges.2.0 as usize],
-    ]
+    sq_lengths_at(&edges.numbers(), sq_lengths)
 }
 
 // The area of a triangle of three squared lengths: the root of the squared area, its sign cleared.

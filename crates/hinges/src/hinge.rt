@@ -13,7 +13,7 @@ pub struct Hinge {
     pub kind: HingeType,
 }
 
-// The byte of a kind in a list of kinds: 0 Spacelike, 1 Timelike, 2 where there is none yet. Such a list is written by this alone.
+// The byte of a kind in a list of kinds: the kind's number, or 2 where there is none yet.
 // Bytes and no options: the list is lent over the C interface.
 pub fn byte_of(kind: Option<HingeType>) -> u8
     ensures { result ≡ byte_of kind }

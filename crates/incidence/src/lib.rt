@@ -26,6 +26,15 @@ pub struct PentachoronNumber(pub u32);
 #[derive(Clone, Copy, Debug, PartialEq, Eq)]
 pub struct TriangleEdges(pub EdgeNumber, pub EdgeNumber, pub EdgeNumber);
 
+impl TriangleEdges {
+    // The three numbers.
+    pub fn numbers(&self) -> [u32; 3]
+        ensures { result ≡ edge_list self.now }
+    {
+        [self.0.0, self.1.0, self.2.0]
+    }
+}
+
 // The local indices of two vertices of a pentachoron.
 #[derive(Clone, Copy, Debug, PartialEq, Eq)]
 pub struct Opposite {
@@ -100,6 +109,7 @@ fn ten<'a>(numbers: &'a [u32], i: usize) -> &'a [u32]
     requires { 10 * i + 10 ≤ length numbers.now }
     ensures { result.now ≡ take 10 (drop (10 * i) numbers.now) }
 {
+    // By its bounds: `chunks_exact(10).nth(i)` gives an Option, to be unwrapped by a proof of the same bounds.
     &numbers[10 * i..10 * i + 10]
 }
 

@@ -64,9 +64,10 @@ pub fn local_deficit_angles_built(
     check_free(counts, free_edges)?;
     let mut marks = [false; 81920];
     mark_tris(&built.complex, free_edges, &mut marks);
-    let count = count_marked(counts.triangles, &marks);
+    let own = &marks[..counts.triangles];
+    let count = count_marked(own);
     check_room(lacks_room(count, tris.len(), deficits.len(), kinds.len()))?;
-    list_marked(counts.triangles, &marks, tris);
+    list_marked(own, tris);
     write_hinges(built, sq_lengths, &tris[..count], deficits, kinds);
     Ok(count)
 }

@@ -11,7 +11,7 @@ use native.Mathlib.Nat.{add-zero}
 use native.Mathlib.Numerals.{add-one}
 use native.Mathlib.Omega.{arith}
 use lib.ListN.{length, get_or, set, take, replicate, drop, length-set, length-replicate, get_or-replicate, length-append, get_or-append}
-use lib.Seq.{get_or-set_same, get_or-set_other, lt-length-set, take-suc}
+use lib.Seq.{get_or-set_same, get_or-set_other, get_or-take, length-take-le, lt-length-set, take-suc}
 use Rattle.lists.specs.Lists.{keep, gather, upto, among, Once}
 use Rattle.lists.specs.Rows.{over}
 use Rattle.lists.specs.Groups.{Below}
@@ -73,6 +73,13 @@ module _ (m : ℕ) (ms : List Bool) (xs : List ℕ) (t : ℕ) (h : t < m) (e : m
 pub marked-listed : (xs : List ℕ) (n m : ℕ) → n ≤ m → marked_below n (marked xs (replicate m false)) ≡ listed n xs
 unfolding marked_below listed
 marked-listed xs n m h = keep_same (λ t. get_or (marked xs (replicate m false)) t false) (λ t. among t xs) (upto n) (λ t k. mark-says xs m t (omega (arith, mem-upto n t k)))
+
+-- the marks of the first n numbers alone have the marked numbers below n
+pub marked-front : (marks : List Bool) (n : ℕ) → n ≤ length marks → marked_below (length (take n marks)) (take n marks) ≡ marked_below n marks
+unfolding marked_below
+marked-front marks n h =
+    ap (λ k. keep (λ t. get_or (take n marks) t false) (upto k)) (length-take-le n marks h)
+    ∙ keep_same (λ t. get_or (take n marks) t false) (λ t. get_or marks t false) (upto n) (λ t k. get_or-take n marks t false (mem-upto n t k))
 
 -- ---- one number more
 

@@ -24,7 +24,8 @@ pub fn mark_all(numbers: &[u32], marks: &mut [bool])
     }
 }
 
-// Marks the numbers that free edges have in an adjacency list.
+// Marks the numbers that free edges have in an adjacency list. Its rows and edges are variables of the clauses: the list itself is
+// of numbers alone, and serves triangles as it does pentachorons.
 #[tactic(auto, unfolding(crate::specs::Marks::marked, crate::specs::Marks::met, lists::specs::Lists::gather))]
 fn mark_met<'a>(adjacency: &AdjacencyList<'a>, free_edges: &'a [u32], marks: &mut [bool])
     requires { (rs : List (List ℕ)) × (edges : List (List ℕ)) × IsMeeting rs edges adjacency.now free_edges.now (length marks.old) }
@@ -55,15 +56,13 @@ pub fn mark_pents<'a>(complex: &Complex<'a>, free_edges: &'a [u32], marks: &mut 
 
 // ---- marks are read
 
-// How many numbers below n are marked.
-pub fn count_marked(n: usize, marks: &[bool]) -> usize
-    requires { n ≤ length marks.now }
-    ensures { result ≡ length (marked_below n marks.now) }
+// How many numbers are marked.
+pub fn count_marked(marks: &[bool]) -> usize
+    ensures { result ≡ length (marked_below (length marks.now) marks.now) }
 {
     // A loop and no `filter` with `count`, which takes five times the instructions.
-    let own = &marks[..n];
     let mut count = 0;
-    for mark in own {
+    for mark in marks {
         if *mark {
             count += 1;
         }
@@ -71,16 +70,15 @@ pub fn count_marked(n: usize, marks: &[bool]) -> usize
     count
 }
 
-// Writes the marked numbers below n, ascending.
+// Writes the marked numbers, ascending.
 #[tactic(auto, unfolding(crate::specs::Marks::marked_below, lists::specs::Lists::upto, lists::specs::Lists::keep, lists::specs::Rows::over))]
-pub fn list_marked(n: usize, marks: &[bool], list: &mut [u32])
-    requires { (n ≤ length marks.now) × (n ≤ 81920) × (length (marked_below n marks.now) ≤ length list.old) }
-    ensures { list.new ≡ over (marked_below n marks.now) list.old }
+pub fn list_marked(marks: &[bool], list: &mut [u32])
+    requires { (length marks.now ≤ 81920) × (length (marked_below (length marks.now) marks.now) ≤ length list.old) }
+    ensures { list.new ≡ over (marked_below (length marks.now) marks.now) list.old }
 {
     // By a count, and no zip with `iter_mut`: of what is written through that a proof knows no element.
     let mut count = 0;
-    let own = &marks[..n];
-    for (t, mark) in own.iter().enumerate() {
+    for (t, mark) in marks.iter().enumerate() {
         if *mark {
             list[count] = t as u32;
             count += 1;
@@ -96,10 +94,11 @@ pub fn stands_twice(numbers: &[u32]) -> bool
 {
     let mut marks = [false; 81920];
     for &number in numbers {
-        if marks[number as usize] {
+        let mark = &mut marks[number as usize];
+        if *mark {
             return true;
         }
-        marks[number as usize] = true;
+        *mark = true;
     }
     false
 }

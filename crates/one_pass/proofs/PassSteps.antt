@@ -6,29 +6,28 @@ use mathlib.Core.Path.{◌≡◌, refl, sym, ap, ◌∙◌, subst}
 use mathlib.Core.List.{List, [], ◌++◌, map, map-map, Memᴰ}
 use native.Mathlib.Numerals.{add-one}
 use native.Mathlib.Omega.{arith}
-use lib.ListN.{length, get_or, take, drop, replicate, length-replicate, length-map, get_or-append}
-use lib.Seq.{take-suc, drop-append_seam}
+use lib.ListN.{length, get_or, take, replicate, length-replicate, length-map}
+use lib.Seq.{take-suc}
 use lib.Ieee.{Float, nan}
 use Rattle.floats.specs.Ops.{zero}
 use Rattle.lists.specs.Lists.{gather, upto, combos, keep, among}
 use Rattle.lists.specs.Keys.{find}
-use Rattle.lists.specs.Rows.{Wide, over}
+use Rattle.lists.specs.Rows.{Wide}
 use Rattle.lists.specs.Loops.{scatter}
 use Rattle.lists.proofs.Elements.{get_or-map, map_same, mem-gather, gather-snoc, mem-upto, map-replicate}
-use Rattle.lists.proofs.Loops.{length-scatter, scatter-append, scatter-front, scatter-map}
+use Rattle.lists.proofs.Loops.{length-scatter, scatter-append, scatter-map}
 use Rattle.complex.specs.declared.numbering.Face.TheVariants.{Triangle}
 use Rattle.complex.specs.Complex.{row_numbers}
 use Rattle.complex.proofs.SortedPents.{five-of}
 use Rattle.complex.proofs.Meetings.{count-faces}
 use Rattle.lorentzian.specs.declared.dihedral.Dihedral.{Dihedral}
 use Rattle.lorentzian.specs.declared.dihedral.Dihedral.TheVariants.{Angle}
-use Rattle.lorentzian.specs.Dihedral.{kind_number, pairs}
+use Rattle.lorentzian.specs.Dihedral.{pairs}
 use Rattle.hinges.specs.declared.hinge.Hinge.{Hinge}
-use Rattle.hinges.specs.Hinges.{FaceLists, byte_of, kind_in, plus, first, closed, pent_lengths, lengths_at, dihedral_at, dihedral_of, local_pairs, without, dihedrals, pass_dihedrals, sums, first_kinds, hinges, deficits_of, kinds_of}
+use Rattle.hinges.specs.Hinges.{FaceLists, byte_of, kind_in, plus, first, closed, pent_lengths, lengths_at, dihedral_at, dihedral_of, local_pairs, without, dihedrals, pass_dihedrals, sums, first_kinds, hinges}
 use Rattle.hinges.specs.Parts.{Found}
 use Rattle.hinges.proofs.HingeKinds.{kind-byte}
 use Rattle.hinges.proofs.PentachoronSteps.{numbers-below}
-use Rattle.hinges.proofs.OnePass.{length-hinges}
 use Rattle.one_pass.specs.Pass.{byte_of_first, ten_events}
 
 -- ---- the events of a pentachoron
@@ -73,15 +72,6 @@ module _ (F : FaceLists) (ls : List Float) (five : Wide 5 F.pents) (found : Foun
   unfolding pass_dihedrals
   all-below a m = let w = mem-gather (dihedrals F ls) F.pents m in event-below w.0 w.1 a w.2
 
-  -- the pass over a list that begins with as many values as there are triangles
-  pass-over : {S : Type 0} (d : S) (f : S → Dihedral → S) (x : S) (old new : List S) → new ≡ over (replicate (length F.triangles) x) old
-      → scatter d f (pass_dihedrals F ls) new ≡ scatter d f (pass_dihedrals F ls) (replicate (length F.triangles) x) ++ drop (length F.triangles) old
-  unfolding over
-  pass-over {S} d f x old new e =
-      let n = length F.triangles in
-      ap (scatter d f (pass_dihedrals F ls)) (e ∙ ap (λ (k : ℕ). replicate n x ++ drop k old) (length-replicate n x))
-      ∙ scatter-front d f (pass_dihedrals F ls) (replicate n x) (drop n old) (λ a m. subst (λ (k : ℕ). a.0 < k) (sym (length-replicate n x)) (all-below a m))
-
   first_byte : (k : (Option HingeType)) (d : Dihedral) → byte_of (first k d) ≡ byte_of_first (byte_of k) d
   unfolding byte_of_first
   first_byte k d = ap (λ (u : (Option HingeType)). byte_of (first u d)) (sym (kind-byte k))
@@ -94,19 +84,15 @@ module _ (F : FaceLists) (ls : List Float) (five : Wide 5 F.pents) (found : Foun
       ap (scatter 0 byte_of_first (pass_dihedrals F ls)) (sym (map-replicate byte_of n None))
       ∙ scatter-map None first byte_of 0 byte_of_first first_byte (pass_dihedrals F ls) (replicate n None) (λ a m. subst (λ (k : ℕ). a.0 < k) (sym (length-replicate n None)) (all-below a m))
 
-  module _ (d d1 d2 : List Float) (k k1 k2 : List ℕ)
-      (zeros : d1 ≡ over (replicate (length F.triangles) zero) d) (none : k1 ≡ over (replicate (length F.triangles) 2) k)
+  module _ (d1 d2 : List Float) (k1 k2 : List ℕ)
+      (zeros : d1 ≡ replicate (length F.triangles) zero) (none : k1 ≡ replicate (length F.triangles) 2)
       (summed : d2 ≡ scatter nan plus (pass_dihedrals F ls) d1) (seen : k2 ≡ scatter 0 byte_of_first (pass_dihedrals F ls) k1) where
-    sums-are : d2 ≡ sums F ls ++ drop (length F.triangles) d
+    sums-are : d2 ≡ sums F ls
     unfolding sums
-    sums-are = summed ∙ pass-over nan plus zero d d1 zeros
+    sums-are = summed ∙ ap (scatter nan plus (pass_dihedrals F ls)) zeros
 
-    bytes-are : k2 ≡ map byte_of (first_kinds F ls) ++ drop (length F.triangles) k
-    bytes-are = seen ∙ pass-over 0 byte_of_first 2 k k1 none ∙ ap (λ (l : List ℕ). l ++ drop (length F.triangles) k) bytes-first
-
-    length-sums : length (sums F ls) ≡ length F.triangles
-    unfolding sums
-    length-sums = length-scatter nan plus (pass_dihedrals F ls) (replicate (length F.triangles) zero) ∙ length-replicate (length F.triangles) zero
+    bytes-are : k2 ≡ map byte_of (first_kinds F ls)
+    bytes-are = seen ∙ ap (scatter 0 byte_of_first (pass_dihedrals F ls)) none ∙ bytes-first
 
     length-firsts : length (first_kinds F ls) ≡ length F.triangles
     unfolding first_kinds
@@ -115,36 +101,13 @@ module _ (F : FaceLists) (ls : List Float) (five : Wide 5 F.pents) (found : Foun
     -- the sum and the byte of a triangle
     read_at : (t : ℕ) → t < length F.triangles → closed (kind_in (get_or k2 t 0)) (get_or d2 t nan) ≡ closed (get_or (first_kinds F ls) t None) (get_or (sums F ls) t nan)
     read_at t h =
-        let rest-d = drop (length F.triangles) d in
-        let rest-k = drop (length F.triangles) k in
-        let m : t < length (first_kinds F ls) = omega (arith, length-firsts) in
-        let s : get_or d2 t nan ≡ get_or (sums F ls) t nan = ap (λ (l : List Float). get_or l t nan) sums-are ∙ get_or-append (sums F ls) rest-d nan t (omega (arith, length-sums)) in
-        let b : get_or k2 t 0 ≡ byte_of (get_or (first_kinds F ls) t None) =
-        ap (λ (l : List ℕ). get_or l t 0) bytes-are ∙ get_or-append (map byte_of (first_kinds F ls)) rest-k 0 t (omega (arith, length-firsts, length-map (first_kinds F ls) byte_of)) ∙ get_or-map byte_of (first_kinds F ls) t None 0 m in
-        rw (s, b, kind-byte (get_or (first_kinds F ls) t None)) refl
-
-    -- what the pass leaves past the triangles is kept
-    tail-kept : {S : Type 0} (front : List S) (old : List S) → length front ≡ length F.triangles → drop (length F.triangles) (front ++ drop (length F.triangles) old) ≡ drop (length F.triangles) old
-    tail-kept {S} front old e = ap (λ (n : ℕ). drop n (front ++ drop (length F.triangles) old)) (sym e) ∙ drop-append_seam front (drop (length F.triangles) old)
+        let b : get_or k2 t 0 ≡ byte_of (get_or (first_kinds F ls) t None) = ap (λ (l : List ℕ). get_or l t 0) bytes-are ∙ get_or-map byte_of (first_kinds F ls) t None 0 (omega (arith, length-firsts)) in
+        rw (sums-are, b, kind-byte (get_or (first_kinds F ls) t None)) refl
 
     -- the table of a reading of hinges
-    closed_all : {S : Type 0} (g : Hinge → S) → map (λ t. g (closed (kind_in (get_or k2 t 0)) (get_or d2 t nan))) (upto (length F.triangles)) ≡ map g (hinges F ls)
+    pub closed-all : {S : Type 0} (g : Hinge → S) → map (λ t. g (closed (kind_in (get_or k2 t 0)) (get_or d2 t nan))) (upto (length F.triangles)) ≡ map g (hinges F ls)
     unfolding hinges
-    closed_all {S} g =
+    closed-all {S} g =
         map_same (λ t. g (closed (kind_in (get_or k2 t 0)) (get_or d2 t nan))) (λ t. g (closed (get_or (first_kinds F ls) t None) (get_or (sums F ls) t nan))) (upto (length F.triangles))
         (λ t m. ap g (read_at t (mem-upto (length F.triangles) t m)))
         ∙ sym (map-map g (λ t. closed (get_or (first_kinds F ls) t None) (get_or (sums F ls) t nan)) (upto (length F.triangles)))
-
-    pub table-deficits : (d3 : List Float) → d3 ≡ map (λ t. (closed (kind_in (get_or k2 t 0)) (get_or d2 t nan)).deficit) (upto (length F.triangles)) ++ drop (length F.triangles) d2 → d3 ≡ over (deficits_of (hinges F ls)) d
-    unfolding over
-    table-deficits d3 e =
-        e
-        ∙ rw (closed_all (λ h. h.deficit), length-hinges F ls (λ h. h.deficit))
-        (ap (λ (r : List Float). deficits_of (hinges F ls) ++ r) (ap (drop (length F.triangles)) sums-are ∙ tail-kept (sums F ls) d length-sums))
-
-    pub table-kinds : (k3 : List ℕ) → k3 ≡ map (λ t. kind_number (closed (kind_in (get_or k2 t 0)) (get_or d2 t nan)).kind) (upto (length F.triangles)) ++ drop (length F.triangles) k2 → k3 ≡ over (kinds_of (hinges F ls)) k
-    unfolding over
-    table-kinds k3 e =
-        e
-        ∙ rw (closed_all (λ h. kind_number h.kind), length-hinges F ls (λ h. kind_number h.kind))
-        (ap (λ (r : List ℕ). kinds_of (hinges F ls) ++ r) (ap (drop (length F.triangles)) bytes-are ∙ tail-kept (map byte_of (first_kinds F ls)) k (length-map (first_kinds F ls) byte_of ∙ length-firsts)))

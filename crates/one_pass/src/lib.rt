@@ -2,9 +2,8 @@
 // Two lists and no list of pairs: they are lent over the C interface.
 #![tactic(auto)]
 
-ghost use Rattle.std.specs.Prelude.{◌≡◌, ◌++◌, map, ◌≤◌, ◌<◌, length, get_or, set, drop, replicate};
+ghost use Rattle.std.specs.Prelude.{◌≡◌, map, ◌≤◌, ◌<◌, length, get_or, set};
 ghost use Rattle.std.specs.Float.{nan};
-ghost use Rattle.floats.specs.Ops.{zero};
 ghost use Rattle.lists.specs.Lists.{upto};
 ghost use Rattle.lists.specs.Rows.{over};
 ghost use Rattle.lists.specs.Groups.{Below};
@@ -15,19 +14,9 @@ ghost use Rattle.hinges.specs.Parts.{IsPassable};
 ghost use Rattle.one_pass.specs.Pass.{byte_of_first, ten_events};
 
 use complex::{Complex, Incidence};
-use hinges::{byte_of, closed, first, kind_in, pent_sq_lengths, zero_all};
+use hinges::{byte_of, closed, first, kind_in, pent_sq_lengths};
 use incidence::{PentachoronNumber, TriangleNumber, pent_edge_indices, pent_tri_indices};
 use lorentzian::{Dihedral, compute_dihedral, ten_dihedrals};
-
-// ---- before the pass
-
-// The first n bytes are no kind.
-fn clear_kinds(n: usize, kinds: &mut [u8])
-    requires { n ≤ length kinds.old }
-    ensures { kinds.new ≡ over (replicate n 2) kinds.old }
-{
-    kinds[..n].fill(byte_of(None));
-}
 
 // ---- the pass
 
@@ -81,15 +70,15 @@ fn add_all_dihedrals<'a>(
 
 // ---- after the pass
 
-// The first n sums and first kinds become deficits and kinds.
+// Sums and first kinds become deficits and kinds.
 #[tactic(auto, unfolding(lists::specs::Lists::upto))]
-fn close_all(n: usize, sums: &mut [f64], kinds: &mut [u8])
-    requires { (n ≤ length sums.old) × (n ≤ length kinds.old) }
-    ensures { (sums.new ≡ map (λ t. (closed (kind_in (get_or kinds.old t 0)) (get_or sums.old t nan)).deficit) (upto n) ++ drop n sums.old)
-        × (kinds.new ≡ map (λ t. kind_number (closed (kind_in (get_or kinds.old t 0)) (get_or sums.old t nan)).kind) (upto n) ++ drop n kinds.old) }
+fn close_all(sums: &mut [f64], kinds: &mut [u8])
+    requires { length kinds.old ≡ length sums.old }
+    ensures { (sums.new ≡ map (λ t. (closed (kind_in (get_or kinds.old t 0)) (get_or sums.old t nan)).deficit) (upto (length sums.old)))
+        × (kinds.new ≡ map (λ t. kind_number (closed (kind_in (get_or kinds.old t 0)) (get_or sums.old t nan)).kind) (upto (length sums.old))) }
 {
-    // By the index: of what is written through `iter_mut` a proof knows no element.
-    for k in 0..n {
+    // By the index: after a zip of two `iter_mut` a proof knows the lists' lengths and no entry.
+    for k in 0..sums.len() {
         let hinge = closed(kind_in(kinds[k]), sums[k]);
         sums[k] = hinge.deficit;
         kinds[k] = hinge.kind.number();
@@ -111,8 +100,10 @@ pub fn write_table<'a>(
     ensures { (deficits.new ≡ over (deficits_of (hinges (faces_of complex.now) sq_lengths.now)) deficits.old)
         × (kinds.new ≡ over (kinds_of (hinges (faces_of complex.now) sq_lengths.now)) kinds.old) }
 {
-    zero_all(complex.counts.triangles, deficits);
-    clear_kinds(complex.counts.triangles, kinds);
-    add_all_dihedrals(complex, incidence, sq_lengths, deficits, kinds);
-    close_all(complex.counts.triangles, deficits, kinds);
+    let sums = &mut deficits[..complex.counts.triangles];
+    let firsts = &mut kinds[..complex.counts.triangles];
+    sums.fill(0.0);
+    firsts.fill(byte_of(None));
+    add_all_dihedrals(complex, incidence, sq_lengths, sums, firsts);
+    close_all(sums, firsts);
 }

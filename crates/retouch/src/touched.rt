@@ -61,6 +61,7 @@ pub fn list_touched<'a>(
 {
     let mut marks = [false; 81920];
     mark_touched(complex, incidence, edge, &mut marks);
-    list_marked(complex.counts.triangles, &marks, tris);
-    count_marked(complex.counts.triangles, &marks)
+    let own = &marks[..complex.counts.triangles];
+    list_marked(own, tris);
+    count_marked(own)
 }

@@ -1,11 +1,11 @@
 -- `marks::count_marked` meets its contract. Assumes nothing.
-use Rattle.std.proofs.Common.{◌∙◌, sym, ap, take, count_by, arith}
+use Rattle.std.proofs.Common.{◌∙◌, sym, ap, length, count_by, arith}
 use lib.Seq.{take_all}
 use Rattle.marks.proofs.Marking.{marked-counted}
 use Rattle.marks.proofs.count_marked.Goals as goal
 
 pub returns : goal.returns
 returns c =
-    let a = c.args in
+    let M = c.args.marks.now in
     let l = c.loop-mark in
-    l.invariant ∙ ap (count_by (λ m. m)) (take_all l.mark-index (take a.n a.marks.now) (omega arith)) ∙ sym (marked-counted a.marks.now a.n c.requires)
+    l.invariant ∙ ap (count_by (λ m. m)) (take_all l.mark-index M (omega arith) ∙ sym (take_all (length M) M (omega arith))) ∙ sym (marked-counted M (length M) (omega arith))

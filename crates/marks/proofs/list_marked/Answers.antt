@@ -1,12 +1,9 @@
 -- `marks::list_marked` meets its contract. Assumes nothing.
-use Rattle.std.proofs.Common.{get_or-take}
 use Prim.Native.Nat.{◌<◌}
-use mathlib.Core.Bool.{false}
 use mathlib.Core.List.{[], ◌∷◌}
-use mathlib.Core.Path.{◌≡◌, sym, ap, ◌∙◌}
+use mathlib.Core.Path.{sym, ap, ◌∙◌}
 use native.Mathlib.Omega.{arith}
-use lib.ListN.{length, length-append, get_or, take}
-use lib.Seq.{length-take-le}
+use lib.ListN.{length, length-append}
 use Rattle.lists.proofs.Rows.{front-turn}
 use Rattle.marks.specs.Marks.{marked_below}
 use Rattle.marks.proofs.Marking.{marked-here, marked-past, marked-room}
@@ -17,24 +14,22 @@ pub bounds-list-count : goal.bounds-list-count
 bounds-list-count c =
     let M = c.args.marks.now in
     let l = c.loop-t in
-    let h : l.t < c.args.n = omega (arith, length-take-le c.args.n M c.requires.0) in
-    omega (arith, marked-room M l.t c.args.n h (sym (get_or-take c.args.n M l.t false h) ∙ c.if-mark.true))
+    omega (arith, marked-room M l.t (length M) (omega arith) c.if-mark.true)
 
 pub loop-t-preserved : goal.loop-t-preserved
 loop-t-preserved c =
     let a = c.args in
     let M = a.marks.now in
     let l = c.loop-t in
-    let h : l.t < a.n = omega (arith, length-take-le a.n M c.requires.0) in
-    let read : get_or (take a.n M) l.t false ≡ get_or M l.t false = get_or-take a.n M l.t false h in
+    let h : l.t < length M = omega arith in
     elim c.if-mark.branch [
       | then-mark w ↦
-          let e = sym read ∙ w.if-mark.true in
+          let e = w.if-mark.true in
           let here = marked-here M l.t e in (
             omega (arith, w.count-is, l.invariant.0, ap length here, length-append (marked_below l.t M) (l.t ∷ [])),
-            rw (w.list-is, w.count-is, here) (front-turn (marked_below l.t M) l.t a.list.now l.list l.count (sym l.invariant.0) (omega (arith, marked-room M l.t a.n h e, l.invariant.0, c.requires.2)) l.auto.list l.invariant.1),
+            rw (w.list-is, w.count-is, here) (front-turn (marked_below l.t M) l.t a.list.now l.list l.count (sym l.invariant.0) (omega (arith, marked-room M l.t (length M) h e, l.invariant.0, c.requires.1)) l.auto.list l.invariant.1),
           )
       | else-mark w ↦
-          let past = marked-past M l.t (sym read ∙ w.if-mark.false) in
+          let past = marked-past M l.t w.if-mark.false in
           (w.count-is ∙ l.invariant.0 ∙ ap length (sym past), rw (w.list-is, w.count-is, past) l.invariant.1)
     ]

@@ -13,7 +13,7 @@ use Rattle.lists.specs.Rows.{over}
 use Rattle.lists.proofs.Rows.{over-take}
 use Rattle.complex.proofs.Offences.{or-false}
 use Rattle.marks.specs.Marks.{marked_below}
-use Rattle.marks.proofs.Marking.{marked-most, listed_below}
+use Rattle.marks.proofs.Marking.{marked-front, listed_below}
 use Rattle.hinges.specs.Hinges.{hinges, hinge_in, deficits_of, kinds_of, faces_of}
 use Rattle.hinges.specs.Local.{local_triangles}
 use Rattle.calls.specs.Calls.{room_check_of}
@@ -27,11 +27,17 @@ use Rattle.local_regge.proofs.local_deficits.local_deficit_angles_built.Goals.{I
 passed : (c : In_ok-check_free) → Passed c.args.built.now c.args.free_edges.now (length c.args.sq_lengths.now)
 passed c = local-passed c.args.built.now c.args.free_edges.now (length c.args.sq_lengths.now) c.in_ok-check_lengths.ensures c.in_ok-check_free.ensures
 
+-- the numbers below that of the triangles that are marked, read from their marks alone
+front-marked : (c : After-check_room) → let n = c.args.built.now.complex.counts.triangles in let marks = c.mark_tris.new.marks in marked_below (length (take n marks)) (take n marks) ≡ marked_below n marks
+front-marked c =
+    let p = local-passed c.args.built.now c.args.free_edges.now (length c.args.sq_lengths.now) c.in_ok-check_lengths.ensures c.in_ok-check_free.ensures in
+    marked-front c.mark_tris.new.marks c.args.built.now.complex.counts.triangles (omega (arith, p.measured.few, c.mark_tris.auto.marks))
+
 -- the marked triangles are those on free edges
-own-marked : (c : After-check_room) → marked_below c.args.built.now.complex.counts.triangles c.mark_tris.new.marks ≡ local_triangles (faces_of c.args.built.now.complex) c.args.free_edges.now
+own-marked : (c : After-check_room) → let n = c.args.built.now.complex.counts.triangles in let marks = c.mark_tris.new.marks in marked_below (length (take n marks)) (take n marks) ≡ local_triangles (faces_of c.args.built.now.complex) c.args.free_edges.now
 own-marked c =
     let p = local-passed c.args.built.now c.args.free_edges.now (length c.args.sq_lengths.now) c.in_ok-check_lengths.ensures c.in_ok-check_free.ensures in
-    marks_local c.args.built.now.complex c.args.free_edges.now 81920 p.measured.few c.mark_tris.new.marks c.mark_tris.ensures
+    front-marked c ∙ marks_local c.args.built.now.complex c.args.free_edges.now 81920 p.measured.few c.mark_tris.new.marks c.mark_tris.ensures
 
 -- the check of room says whether they have room
 room-says : (c : After-check_room) → c.check_room.result ≡ room_check_of (short_local (faces_of c.args.built.now.complex) c.args.free_edges.now (length c.args.tris.now) (length c.args.deficits.now) (length c.args.kinds.now))
@@ -62,8 +68,13 @@ returns-in_err-check_free c =
 pub mark_tris-requires : goal.mark_tris-requires
 mark_tris-requires c = let p = passed (goal.at.mark_tris-requires c).In_ok-check_free in (p.on_triangles, p.below, p.measured.few)
 
-pub count_marked-count-requires : goal.count_marked-count-requires
-count_marked-count-requires c = omega (arith, (passed (goal.at.count_marked-count-requires c).In_ok-check_free).measured.few, c.mark_tris.auto.marks)
+pub slice_bounds-marks-end : goal.slice_bounds-marks-end
+slice_bounds-marks-end c = omega (arith, (passed (goal.at.slice_bounds-marks-end c).In_ok-check_free).measured.few, c.mark_tris.auto.marks)
+
+pub slice_bounds-own-end : goal.slice_bounds-own-end
+slice_bounds-own-end c =
+    let few = (passed (goal.at.slice_bounds-own-end c).In_ok-check_free).measured.few in
+    omega (arith, few, c.mark_tris.auto.marks, length-take-le c.args.built.now.complex.counts.triangles c.mark_tris.new.marks (omega (arith, few, c.mark_tris.auto.marks)))
 
 pub returns-in_err-check_room : goal.returns-in_err-check_room
 returns-in_err-check_room c =
@@ -73,7 +84,7 @@ returns-in_err-check_room c =
 pub list_marked-requires : goal.list_marked-requires
 list_marked-requires c =
     let few = (passed (goal.at.list_marked-requires c).In_ok-check_free).measured.few in
-    (omega (arith, few, c.mark_tris.auto.marks), few, omega (arith, (room-left (goal.at.list_marked-requires c).In_ok-check_room).0, c.count_marked-count.ensures))
+    (omega (arith, few, c.mark_tris.auto.marks, length-take-le c.args.built.now.complex.counts.triangles c.mark_tris.new.marks (omega (arith, few, c.mark_tris.auto.marks))), omega (arith, (room-left (goal.at.list_marked-requires c).In_ok-check_room).0, c.count_marked-count.ensures))
 
 pub slice_bounds-write_hinges-end : goal.slice_bounds-write_hinges-end
 slice_bounds-write_hinges-end c = omega (arith, (room-left (goal.at.slice_bounds-write_hinges-end c).In_ok-check_room).0, c.list_marked.auto.list)
@@ -87,13 +98,14 @@ write_hinges-requires c =
     let a = c.args in
     let p = passed (goal.at.write_hinges-requires c).In_ok-check_free in
     let r = room-left (goal.at.write_hinges-requires c).In_ok-check_room in
+    let d = (goal.at.write_hinges-requires c).After-check_room in
     let n = c.count_marked-count.result in
     let list = c.list_marked.new.list in
     let l : length (take n list) ≡ n = length-take-le n list (omega (arith, r.0, c.list_marked.auto.list)) in (
       p.lengths,
       (λ k h.
           let i : k < n = omega (arith, h, l) in
-          subst (λ t. t < a.built.now.complex.counts.triangles) (sym (get_or-take n list k 0 i)) (listed_below a.built.now.complex.counts.triangles c.mark_tris.new.marks a.tris.now list c.list_marked.ensures k (omega (arith, i, c.count_marked-count.ensures)))),
+          subst (λ t. t < a.built.now.complex.counts.triangles) (sym (get_or-take n list k 0 i)) (listed_below a.built.now.complex.counts.triangles c.mark_tris.new.marks a.tris.now list (c.list_marked.ensures ∙ ap (λ xs. over xs a.tris.now) (front-marked d)) k (omega (arith, i, c.count_marked-count.ensures, ap length (front-marked d))))),
       omega (arith, l, r.1),
       omega (arith, l, r.2),
     )

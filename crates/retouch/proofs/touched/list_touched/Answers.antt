@@ -1,10 +1,12 @@
 -- `retouch::touched::list_touched` meets its contract. Assumes nothing.
+use Prim.Native.Nat.{◌≤◌}
 use mathlib.Core.Bool.{Bool, false}
 use mathlib.Core.Path.{refl, ap, ◌∙◌}
 use native.Mathlib.Omega.{arith}
 use lib.ListN.{length}
+use lib.Seq.{length-take-le}
 use Rattle.lists.specs.Rows.{over}
-use Rattle.marks.proofs.Marking.{scratch-room, marked-most}
+use Rattle.marks.proofs.Marking.{scratch-room, marked-front, marked-most}
 use Rattle.retouch.proofs.TouchedSteps.{marks-touched}
 use Rattle.retouch.proofs.touched.list_touched.Goals as goal
 
@@ -13,19 +15,26 @@ mark_touched-requires c =
     let p = c.requires in
     (p.0, p.1, p.2, p.3, scratch-room {A = Bool} 81920 refl false _ refl c.args.complex.now.counts.triangles p.4)
 
+pub slice_bounds-own-end : goal.slice_bounds-own-end
+slice_bounds-own-end c =
+    let n = c.args.complex.now.counts.triangles in
+    let marks = c.mark_touched.new.marks in
+    let room : n ≤ length marks = omega (arith, scratch-room {A = Bool} 81920 refl false _ refl n c.requires.4, c.mark_touched.auto.marks) in
+    omega (arith, room, length-take-le n marks room)
+
 pub list_marked-requires : goal.list_marked-requires
 list_marked-requires c =
-    let a = c.args in
+    let n = c.args.complex.now.counts.triangles in
     let p = c.requires in
-    let f = c.mark_touched in
-    (omega (arith, scratch-room {A = Bool} 81920 refl false _ refl a.complex.now.counts.triangles p.4, f.auto.marks), p.4, omega (arith, marked-most f.new.marks a.complex.now.counts.triangles, p.5))
-
-pub count_marked-requires : goal.count_marked-requires
-count_marked-requires c = omega (arith, scratch-room {A = Bool} 81920 refl false _ refl c.args.complex.now.counts.triangles c.requires.4, c.mark_touched.auto.marks)
+    let marks = c.mark_touched.new.marks in
+    let room : n ≤ length marks = omega (arith, scratch-room {A = Bool} 81920 refl false _ refl n p.4, c.mark_touched.auto.marks) in
+    (omega (arith, length-take-le n marks room, p.4), rw (marked-front marks n room) (omega (arith, marked-most marks n, p.5)))
 
 pub returns : goal.returns
 returns c =
     let a = c.args in
-    let f = c.mark_touched in
-    let m = marks-touched a.complex.now a.edge.0 81920 c.requires.4 f.new.marks f.ensures in
+    let n = a.complex.now.counts.triangles in
+    let marks = c.mark_touched.new.marks in
+    let room : n ≤ length marks = omega (arith, scratch-room {A = Bool} 81920 refl false _ refl n c.requires.4, c.mark_touched.auto.marks) in
+    let m = marked-front marks n room ∙ marks-touched a.complex.now a.edge.0 81920 c.requires.4 marks c.mark_touched.ensures in
     (c.count_marked.ensures ∙ ap length m, c.list_marked.ensures ∙ ap (λ xs. over xs a.tris.now) m)
