@@ -12,7 +12,7 @@ use Rattle.marks.proofs.Marking.{scatter-here, scatter-past}
 use Rattle.hinges.specs.declared.hinge.Hinge.{Hinge}
 use Rattle.hinges.specs.Hinges.{FaceLists, lengths_at, pent_lengths, hinges, hinge_in}
 use Rattle.hinges.specs.Action.{edges_at, tri_lengths}
-use Rattle.second_derivatives.specs.declared.matrix.FreeMatrix.{FreeMatrix}
+use Rattle.second_derivatives.specs.declared.matrix.SquareMatrix.{SquareMatrix}
 use Rattle.second_derivatives.specs.SecondDerivatives.{first_adds, second_adds}
 use Rattle.second_derivatives.specs.Parts.{places_in, placed, on_diagonal, off_diagonal}
 use Rattle.second_derivatives.specs.Matrix.{Scattered}
@@ -22,23 +22,23 @@ use Rattle.hessian.specs.Parts.{diagonal_at, first_at, second_at}
 -- ---- marks
 
 -- a loop over marked numbers has not begun
-pub scattered-unmarked : (f : Float → Float → Float) (event : ℕ → List (ℕ × Float)) (marks : List Bool) (m : FreeMatrix) → Scattered f (gather event (marked_below 0 marks)) m m
+pub scattered-unmarked : (f : Float → Float → Float) (event : ℕ → List (ℕ × Float)) (marks : List Bool) (m : SquareMatrix) → Scattered f (gather event (marked_below 0 marks)) m m
 unfolding marked_below keep upto gather
 scattered-unmarked f event marks m = scattered-none f m
 
-module _ (f : Float → Float → Float) (event : ℕ → List (ℕ × Float)) (marks : List Bool) (t : ℕ) (old now : FreeMatrix) (was : Scattered f (gather event (marked_below t marks)) old now) where
+module _ (f : Float → Float → Float) (event : ℕ → List (ℕ × Float)) (marks : List Bool) (t : ℕ) (old now : SquareMatrix) (was : Scattered f (gather event (marked_below t marks)) old now) where
   -- the turn of a marked number
-  pub scattered-here : get_or marks t false ≡ true → (es : List (ℕ × Float)) → es ≡ event t → (new : FreeMatrix) → Scattered f es now new → Scattered f (gather event (marked_below (t + 1) marks)) old new
+  pub scattered-here : get_or marks t false ≡ true → (es : List (ℕ × Float)) → es ≡ event t → (new : SquareMatrix) → Scattered f es now new → Scattered f (gather event (marked_below (t + 1) marks)) old new
   scattered-here m es e new is =
       record {
-        free_edges = is.free_edges ∙ was.free_edges;
+        size = is.size ∙ was.size;
         lent = is.lent ∙ was.lent;
         entries = scatter-here nan f event marks t old.entries.now now.entries.now was.entries m es e new.entries.now is.entries;
       }
 
   -- and of another
   pub scattered-past : get_or marks t false ≡ false → Scattered f (gather event (marked_below (t + 1) marks)) old now
-  scattered-past m = record { free_edges = was.free_edges; lent = was.lent; entries = scatter-past nan f event marks t old.entries.now now.entries.now was.entries m }
+  scattered-past m = record { size = was.size; lent = was.lent; entries = scatter-past nan f event marks t old.entries.now now.entries.now was.entries m }
 
 -- ---- single addends
 
@@ -50,11 +50,11 @@ gather-ones f (x ∷ xs) = ap (λ l. f x ∷ l) (gather-ones f xs)
 
 -- ---- a pentachoron and a triangle
 
-module _ (F : FaceLists) (ls : List Float) (free own at : List ℕ) (s : List Float) (t : ℕ) (ae : at ≡ places_in free own) (se : s ≡ lengths_at ls own) where
+module _ (F : FaceLists) (ls : List Float) (free own at : List ℕ) (n : ℕ) (ne : n ≡ length free) (s : List Float) (t : ℕ) (ae : at ≡ places_in free own) (se : s ≡ lengths_at ls own) where
   -- what the program adds for a pentachoron is what the definition does
-  pub second-event : (eps : Float) → own ≡ row_numbers F.edges 2 (get_or F.pents t []) → placed (length free) at (second_adds s eps) ≡ second_at F ls free eps t
+  pub second-event : (eps : Float) → own ≡ row_numbers F.edges 2 (get_or F.pents t []) → placed n at (second_adds s eps) ≡ second_at F ls free eps t
   unfolding second_at pent_lengths
-  second-event eps oe = rw (ae, se, oe) refl
+  second-event eps oe = rw (ne, ae, se, oe) refl
 
   module _ (hinge : Hinge) (oe : own ≡ edges_at F t) (he : hinge ≡ hinge_in (hinges F ls) t) where
     -- what it adds on the diagonal for a triangle
@@ -63,6 +63,6 @@ module _ (F : FaceLists) (ls : List Float) (free own at : List ℕ) (s : List Fl
     diagonal-event = rw (se, oe, he) refl
 
     -- and off the diagonal
-    pub first-event : placed (length free) at (off_diagonal (first_adds s hinge.deficit)) ≡ first_at F ls free t
+    pub first-event : placed n at (off_diagonal (first_adds s hinge.deficit)) ≡ first_at F ls free t
     unfolding first_at tri_lengths
-    first-event = rw (ae, se, oe, he) refl
+    first-event = rw (ne, ae, se, oe, he) refl

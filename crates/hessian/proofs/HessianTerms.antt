@@ -1,11 +1,12 @@
 -- The two terms of the local Hessian over all triangles and pentachorons on free edges, from lists of marks and sums in scratch. Assumes nothing.
 use Prim.Native.Nat.{ℕ, ◌*◌, ◌≤◌, ◌<◌}
 use mathlib.Core.Bool.{Bool, false}
-use mathlib.Core.List.{List}
-use mathlib.Core.Path.{◌≡◌, ap, ◌∙◌}
+use mathlib.Core.List.{List, ◌++◌}
+use mathlib.Core.Path.{◌≡◌, refl, ap, ◌∙◌}
 use native.Mathlib.Omega.{arith}
 use lib.Ieee.{Float, nan}
-use lib.ListN.{length, get_or, replicate}
+use lib.ListN.{length, get_or, take, drop, replicate, length-replicate}
+use lib.Seq.{length-take-le}
 use Rattle.floats.specs.Ops.{◌⊕◌, zero}
 use Rattle.lists.specs.Lists.{gather, Once}
 use Rattle.lists.specs.Rows.{over}
@@ -30,6 +31,11 @@ use Rattle.hessian.proofs.HessianMatrix.{diagonal-sum, matrix-over}
 pub on-free : (rs edges : List (List ℕ)) (free : List ℕ) (n m : ℕ) (marks₀ marks : List Bool) → marks₀ ≡ replicate m false → marks ≡ marked (met rs edges free) marks₀ → length rs ≡ n → n ≤ m
     → marked_below n marks ≡ listed (length rs) (met rs edges free)
 on-free rs edges free n m marks₀ marks z e l h = rw (e, z, l) (marked-listed (met rs edges free) n m h)
+
+-- a list whose first n numbers were filled with 0
+pub zeros-first : (n : ℕ) (old front : List Float) → n ≤ length old → front ≡ replicate (length (take n old)) zero → front ++ drop n old ≡ over (replicate n zero) old
+unfolding over
+zeros-first n old front h e = rw (e, length-take-le n old h, length-replicate) refl
 
 -- the sums on the diagonal are those of the triangles on free edges
 pub sums-whole : (F : FaceLists) (ls : List Float) (free : List ℕ) (m : ℕ) → m ≡ 81920 → (own : List ℕ) (sums₀ sums : List Float) → own ≡ local_triangles F free → sums₀ ≡ replicate m zero

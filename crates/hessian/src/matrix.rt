@@ -1,4 +1,6 @@
 // The local Hessian as a matrix: what the pentachorons and triangles on free edges add, in their order.
+// The free edges stand beside their matrix, as many as it has rows: a struct of both has the matrix as a struct in a struct, and the
+// proof of what the lent list holds in the end didn't close.
 ghost use Rattle.std.specs.Prelude.{◌≡◌, ◌*◌, ◌≤◌, ◌<◌, length};
 ghost use Rattle.std.specs.Float.{nan};
 ghost use Rattle.floats.specs.Ops.{◌⊕◌};
@@ -18,10 +20,10 @@ ghost use Rattle.hessian.specs.Parts.{diagonal_at, first_at, second_at};
 ghost use Rattle.hessian.specs.Steps.{ahead, diagonal_events, diagonal_of};
 
 use complex::{Complex, Incidence};
-use hinges::{hinge_at, pent_sq_lengths, tri_sq_lengths, zero_all};
+use hinges::{hinge_at, pent_sq_lengths, tri_sq_lengths};
 use incidence::{PentachoronNumber, TriangleNumber, pent_edge_indices, tri_edge_indices};
 use marks::{mark_pents, mark_tris};
-use second_derivatives::{FreeMatrix, add_first, add_second};
+use second_derivatives::{SquareMatrix, add_first, add_second, places_in};
 
 // ---- the second term
 
@@ -30,16 +32,18 @@ fn add_pent<'a>(
     complex: &Complex<'a>,
     incidence: &Incidence<'a>,
     sq_lengths: &'a [f64],
+    free_edges: &'a [u32],
     fd_eps: f64,
     pent: PentachoronNumber,
-    matrix: &mut FreeMatrix<'_, '_>,
+    matrix: &mut SquareMatrix<'_>,
 )
-    requires { IsPassable complex.now incidence.now (length sq_lengths.now) × (pent.0 < complex.now.counts.pentachorons) }
-    ensures { Scattered ◌⊕◌ (second_at (faces_of complex.now) sq_lengths.now matrix.old.free_edges.now fd_eps pent.0) matrix.old matrix.new }
+    requires { IsPassable complex.now incidence.now (length sq_lengths.now) × (pent.0 < complex.now.counts.pentachorons)
+        × (matrix.old.n ≡ length free_edges.now) }
+    ensures { Scattered ◌⊕◌ (second_at (faces_of complex.now) sq_lengths.now free_edges.now fd_eps pent.0) matrix.old matrix.new }
 {
     let own = pent_edge_indices(complex, incidence, pent);
     let s = pent_sq_lengths(own, sq_lengths);
-    let at = matrix.places(own);
+    let at = places_in(free_edges, own);
     add_second(&at, &s, fd_eps, matrix);
 }
 
@@ -48,17 +52,21 @@ fn add_pents<'a>(
     complex: &Complex<'a>,
     incidence: &Incidence<'a>,
     sq_lengths: &'a [f64],
+    free_edges: &'a [u32],
     marks: &[bool],
     fd_eps: f64,
-    matrix: &mut FreeMatrix<'_, '_>,
+    matrix: &mut SquareMatrix<'_>,
 )
-    requires { IsPassable complex.now incidence.now (length sq_lengths.now) × (complex.now.counts.pentachorons ≤ length marks.now) }
-    ensures { Scattered ◌⊕◌ (gather (second_at (faces_of complex.now) sq_lengths.now matrix.old.free_edges.now fd_eps) (marked_below complex.now.counts.pentachorons marks.now)) matrix.old matrix.new }
+    requires { IsPassable complex.now incidence.now (length sq_lengths.now) × (complex.now.counts.pentachorons ≤ length marks.now)
+        × (matrix.old.n ≡ length free_edges.now) }
+    ensures { Scattered ◌⊕◌ (gather (second_at (faces_of complex.now) sq_lengths.now free_edges.now fd_eps) (marked_below complex.now.counts.pentachorons marks.now)) matrix.old matrix.new }
 {
-    for p in 0..complex.counts.pentachorons {
-        if marks[p] {
+    for (p, mark) in marks[..complex.counts.pentachorons].iter().enumerate() {
+        if *mark {
             let pent = PentachoronNumber(p as u32);
-            add_pent(complex, incidence, sq_lengths, fd_eps, pent, matrix);
+            add_pent(
+                complex, incidence, sq_lengths, free_edges, fd_eps, pent, matrix,
+            );
         }
     }
 }
@@ -68,17 +76,20 @@ fn add_second_term<'a>(
     complex: &Complex<'a>,
     incidence: &Incidence<'a>,
     sq_lengths: &'a [f64],
+    free_edges: &'a [u32],
     fd_eps: f64,
-    matrix: &mut FreeMatrix<'a, '_>,
+    matrix: &mut SquareMatrix<'_>,
 )
     requires { IsPassable complex.now incidence.now (length sq_lengths.now)
         × (IsHolding (pents_of complex.now) (edges_of complex.now) complex.now.edge_to_pents)
-        × Below matrix.old.free_edges.now complex.now.counts.edges }
-    ensures { Scattered ◌⊕◌ (gather (second_at (faces_of complex.now) sq_lengths.now matrix.old.free_edges.now fd_eps) (local_pents (faces_of complex.now) matrix.old.free_edges.now)) matrix.old matrix.new }
+        × Below free_edges.now complex.now.counts.edges × (matrix.old.n ≡ length free_edges.now) }
+    ensures { Scattered ◌⊕◌ (gather (second_at (faces_of complex.now) sq_lengths.now free_edges.now fd_eps) (local_pents (faces_of complex.now) free_edges.now)) matrix.old matrix.new }
 {
     let mut marks = [false; 8192];
-    mark_pents(complex, matrix.free_edges, &mut marks);
-    add_pents(complex, incidence, sq_lengths, &marks, fd_eps, matrix);
+    mark_pents(complex, free_edges, &mut marks);
+    add_pents(
+        complex, incidence, sq_lengths, free_edges, &marks, fd_eps, matrix,
+    );
 }
 
 // ---- the first term
@@ -88,19 +99,20 @@ fn add_tri<'a>(
     complex: &Complex<'a>,
     incidence: &Incidence<'a>,
     sq_lengths: &'a [f64],
+    free_edges: &'a [u32],
     tri: TriangleNumber,
     diagonal: &mut [f64],
-    matrix: &mut FreeMatrix<'_, '_>,
+    matrix: &mut SquareMatrix<'_>,
 )
     requires { IsMeasured complex.now incidence.now (length sq_lengths.now)
-        × (tri.0 < complex.now.counts.triangles) × (complex.now.counts.edges ≤ length diagonal.old) }
+        × (tri.0 < complex.now.counts.triangles) × (complex.now.counts.edges ≤ length diagonal.old) × (matrix.old.n ≡ length free_edges.now) }
     ensures diagonal { diagonal.new ≡ scatter nan ◌⊕◌ (diagonal_at (faces_of complex.now) sq_lengths.now tri.0) diagonal.old }
-    ensures others { Scattered before (first_at (faces_of complex.now) sq_lengths.now matrix.old.free_edges.now tri.0) matrix.old matrix.new }
+    ensures others { Scattered before (first_at (faces_of complex.now) sq_lengths.now free_edges.now tri.0) matrix.old matrix.new }
 {
     let own = tri_edge_indices(complex, incidence, tri);
     let hinge = hinge_at(complex, incidence, sq_lengths, tri);
     let s = tri_sq_lengths(own, sq_lengths);
-    let at = matrix.places(&[own.0.0, own.1.0, own.2.0]);
+    let at = places_in(free_edges, &own.numbers());
     add_first(at, own, s, hinge.deficit, diagonal, matrix);
 }
 
@@ -109,33 +121,35 @@ fn add_tris<'a>(
     complex: &Complex<'a>,
     incidence: &Incidence<'a>,
     sq_lengths: &'a [f64],
+    free_edges: &'a [u32],
     marks: &[bool],
     diagonal: &mut [f64],
-    matrix: &mut FreeMatrix<'_, '_>,
+    matrix: &mut SquareMatrix<'_>,
 )
     requires { IsMeasured complex.now incidence.now (length sq_lengths.now)
-        × (complex.now.counts.triangles ≤ length marks.now) × (complex.now.counts.edges ≤ length diagonal.old) }
+        × (complex.now.counts.triangles ≤ length marks.now) × (complex.now.counts.edges ≤ length diagonal.old) × (matrix.old.n ≡ length free_edges.now) }
     ensures diagonal { diagonal.new ≡ scatter nan ◌⊕◌ (gather (diagonal_at (faces_of complex.now) sq_lengths.now) (marked_below complex.now.counts.triangles marks.now)) diagonal.old }
-    ensures others { Scattered before (gather (first_at (faces_of complex.now) sq_lengths.now matrix.old.free_edges.now) (marked_below complex.now.counts.triangles marks.now)) matrix.old matrix.new }
+    ensures others { Scattered before (gather (first_at (faces_of complex.now) sq_lengths.now free_edges.now) (marked_below complex.now.counts.triangles marks.now)) matrix.old matrix.new }
 {
-    for t in 0..complex.counts.triangles {
-        if marks[t] {
+    for (t, mark) in marks[..complex.counts.triangles].iter().enumerate() {
+        if *mark {
             let tri = TriangleNumber(t as u32);
-            add_tri(complex, incidence, sq_lengths, tri, diagonal, matrix);
+            add_tri(
+                complex, incidence, sq_lengths, free_edges, tri, diagonal, matrix,
+            );
         }
     }
 }
 
 // Each sum on the diagonal before what its entry holds.
-fn put_diagonal(diagonal: &[f64], matrix: &mut FreeMatrix<'_, '_>)
-    requires { Below matrix.old.free_edges.now (length diagonal.now) }
-    ensures { Scattered ahead (diagonal_events matrix.old.free_edges.now diagonal.now) matrix.old matrix.new }
+fn put_diagonal(free_edges: &[u32], diagonal: &[f64], matrix: &mut SquareMatrix<'_>)
+    requires { Below free_edges.now (length diagonal.now) × (matrix.old.n ≡ length free_edges.now) }
+    ensures { Scattered ahead (diagonal_events free_edges.now diagonal.now) matrix.old matrix.new }
 {
-    let free_edges = matrix.free_edges;
     let n = free_edges.len();
-    for i in 0..n {
+    for (i, edge) in free_edges.iter().enumerate() {
         let k = i * n + i;
-        matrix.entries[k] = diagonal[free_edges[i] as usize] + matrix.entries[k];
+        matrix.entries[k] = diagonal[*edge as usize] + matrix.entries[k];
     }
 }
 
@@ -144,27 +158,29 @@ fn add_first_term<'a>(
     complex: &Complex<'a>,
     incidence: &Incidence<'a>,
     sq_lengths: &'a [f64],
-    matrix: &mut FreeMatrix<'a, '_>,
+    free_edges: &'a [u32],
+    matrix: &mut SquareMatrix<'_>,
 )
     requires { IsMeasured complex.now incidence.now (length sq_lengths.now)
         × (IsHolding (triangles_of complex.now) (edges_of complex.now) complex.now.edge_to_tris)
-        × Below matrix.old.free_edges.now complex.now.counts.edges × (complex.now.counts.edges ≤ 81920) }
+        × Below free_edges.now complex.now.counts.edges × (complex.now.counts.edges ≤ 81920) × (matrix.old.n ≡ length free_edges.now) }
     ensures lent { matrix.new.entries.ghost_name ≡ matrix.old.entries.ghost_name }
-    ensures entries { matrix.new.entries.now ≡ scatter nan ahead (diagonal_events matrix.old.free_edges.now (diagonal_of (faces_of complex.now) sq_lengths.now matrix.old.free_edges.now))
-        (scatter nan before (gather (first_at (faces_of complex.now) sq_lengths.now matrix.old.free_edges.now) (local_triangles (faces_of complex.now) matrix.old.free_edges.now)) matrix.old.entries.now) }
+    ensures entries { matrix.new.entries.now ≡ scatter nan ahead (diagonal_events free_edges.now (diagonal_of (faces_of complex.now) sq_lengths.now free_edges.now))
+        (scatter nan before (gather (first_at (faces_of complex.now) sq_lengths.now free_edges.now) (local_triangles (faces_of complex.now) free_edges.now)) matrix.old.entries.now) }
 {
     let mut marks = [false; 81920];
     let mut diagonal = [0.0; 81920];
-    mark_tris(complex, matrix.free_edges, &mut marks);
+    mark_tris(complex, free_edges, &mut marks);
     add_tris(
         complex,
         incidence,
         sq_lengths,
+        free_edges,
         &marks,
         &mut diagonal,
         matrix,
     );
-    put_diagonal(&diagonal, matrix);
+    put_diagonal(free_edges, &diagonal, matrix);
 }
 
 // ---- the whole
@@ -185,11 +201,10 @@ pub fn write_hessian<'a>(
     ensures { matrix.new ≡ over (local_hessian (faces_of complex.now) sq_lengths.now free_edges.now fd_eps) matrix.old }
 {
     let n = free_edges.len();
-    zero_all(n * n, matrix);
-    let mut lent = FreeMatrix {
-        free_edges,
-        entries: matrix,
-    };
-    add_second_term(complex, incidence, sq_lengths, fd_eps, &mut lent);
-    add_first_term(complex, incidence, sq_lengths, &mut lent);
+    matrix[..n * n].fill(0.0);
+    let mut lent = SquareMatrix { n, entries: matrix };
+    add_second_term(
+        complex, incidence, sq_lengths, free_edges, fd_eps, &mut lent,
+    );
+    add_first_term(complex, incidence, sq_lengths, free_edges, &mut lent);
 }

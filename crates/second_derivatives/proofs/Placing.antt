@@ -3,8 +3,7 @@ use Rattle.std.specs.Prelude.{Option, Some, None}
 use Prim.Native.Nat.{ℕ, zero, suc, ◌+◌, ◌*◌, ◌≤◌, ◌<◌}
 use mathlib.Core.Bool.{Bool, true, false, not, cond, ◌&&◌}
 use mathlib.Core.List.{List, [], ◌∷◌, ◌++◌, map}
-use mathlib.Core.Path.{◌≡◌, refl, sym, ap, ◌∙◌}
-use native.Mathlib.Nat.{mul-le-mul}
+use mathlib.Core.Path.{◌≡◌, refl, ap, ◌∙◌}
 use native.Mathlib.Omega.{arith}
 use lib.Arith.{digits_lt}
 use lib.Dec.{eqb, ltb}
@@ -60,10 +59,6 @@ index-found e xs found r f u = u ∙ ap (λ o. unwrap_or o (length xs)) f ∙ go
 -- a row and a column have a place in the flat matrix
 pub place-below : (n i j m : ℕ) → n * n ≤ m → i < n → j < n → i * n + j < m
 place-below n i j m l h k = let p : i * n + j < n * n = digits_lt h k in omega (arith, p, l)
-
--- a place is a small number
-pub place-small : (n i j : ℕ) → n ≤ 81920 → i < n → j < n → i * n + j < 6710886400
-place-small n i j l h k = place-below n i j 6710886400 (mul-le-mul l l) h k
 
 -- a row and a column of the matrix
 pub placed-there : (n i j : ℕ) (x : Float) → i < n → j < n → placed_in n i j x ≡ (i * n + j, x) ∷ []

@@ -1,8 +1,9 @@
 // What one triangle and one pentachoron add to the matrix of second derivatives by the free edges. The place of an edge is that
-// of its row and column.
+// of its row and column, and the number of rows where it is not free.
 #![tactic(auto)]
 
 mod matrix;
+mod places;
 
 ghost use Rattle.std.specs.Prelude.{◌≡◌, ◌<◌, length, get_or};
 ghost use Rattle.std.specs.Float.{nan};
@@ -19,10 +20,14 @@ use floats::abs;
 use hinges::{abs_area, factor_of};
 use incidence::TriangleEdges;
 use jacobian::all_lorentzian_dihedrals_jacobian;
-use lorentzian::{tri_area_sq_grad_in_pent, triangle_area_sq_grad, triangle_area_sq_lorentzian};
-pub use matrix::FreeMatrix;
+use lorentzian::{
+    edge_idx, tri_area_sq_grad_in_pent, triangle_area_sq_grad, triangle_area_sq_lorentzian,
+};
+pub use matrix::SquareMatrix;
+pub use places::places_in;
 
 // The vertices of the triangle opposite each pair 01, 02, 03, 04, 12, 13, 14, 23, 24, 34.
+// A table: the three would be filtered out of five by the two of the pair, which would be a table themselves.
 const VERTICES: [[usize; 3]; 10] = [
     [2, 3, 4],
     [1, 3, 4],
@@ -36,20 +41,6 @@ const VERTICES: [[usize; 3]; 10] = [
     [0, 1, 2],
 ];
 
-// The edges of that triangle among the ten.
-const EDGES: [[usize; 3]; 10] = [
-    [7, 8, 9],
-    [5, 6, 9],
-    [4, 6, 8],
-    [4, 5, 7],
-    [2, 3, 9],
-    [1, 3, 8],
-    [1, 2, 7],
-    [0, 3, 6],
-    [0, 2, 5],
-    [0, 1, 4],
-];
-
 // ---- the second term
 
 // The row of the e-th edge, by the derivative of an area and those of the k-th dihedral.
@@ -59,13 +50,13 @@ fn add_row(
     k: usize,
     e: usize,
     slope: f64,
-    matrix: &mut FreeMatrix<'_, '_>,
+    matrix: &mut SquareMatrix<'_>,
 )
     requires { (k < 10) × (e < 10) }
-    ensures { Scattered ◌⊕◌ (placed (length matrix.old.free_edges.now) at.now (row_of slope jacobian.now k e)) matrix.old matrix.new }
+    ensures { Scattered ◌⊕◌ (placed matrix.old.n at.now (row_of slope jacobian.now k e)) matrix.old matrix.new }
 {
-    for f in 0..10 {
-        matrix.add(at[e], at[f], slope * -jacobian[10 * k + f]);
+    for (f, col) in at.iter().enumerate() {
+        matrix.add(at[e], *col, slope * -jacobian[10 * k + f]);
     }
 }
 
@@ -76,12 +67,12 @@ fn add_slope(
     k: usize,
     e: usize,
     slope: f64,
-    matrix: &mut FreeMatrix<'_, '_>,
+    matrix: &mut SquareMatrix<'_>,
 )
     requires { (k < 10) × (e < 10) }
-    ensures { Scattered ◌⊕◌ (placed (length matrix.old.free_edges.now) at.now (slope_row slope jacobian.now k e)) matrix.old matrix.new }
+    ensures { Scattered ◌⊕◌ (placed matrix.old.n at.now (slope_row slope jacobian.now k e)) matrix.old matrix.new }
 {
-    if at[e] >= matrix.free_edges.len() {
+    if at[e] >= matrix.n {
         return;
     }
     if abs(slope) < 1e-30 {
@@ -97,13 +88,13 @@ fn add_slopes(
     k: usize,
     factor: f64,
     grad: &[f64; 10],
-    matrix: &mut FreeMatrix<'_, '_>,
+    matrix: &mut SquareMatrix<'_>,
 )
     requires { k < 10 }
-    ensures { Scattered ◌⊕◌ (placed (length matrix.old.free_edges.now) at.now (slope_rows factor grad.now jacobian.now k)) matrix.old matrix.new }
+    ensures { Scattered ◌⊕◌ (placed matrix.old.n at.now (slope_rows factor grad.now jacobian.now k)) matrix.old matrix.new }
 {
-    for e in 0..10 {
-        add_slope(at, jacobian, k, e, factor * grad[e], matrix);
+    for (e, part) in grad.iter().enumerate() {
+        add_slope(at, jacobian, k, e, factor * *part, matrix);
     }
 }
 
@@ -112,9 +103,8 @@ fn lengths_opposite(s: &[f64; 10], k: usize) -> [f64; 3]
     requires { k < 10 }
     ensures { result ≡ lengths_of s.now (left_by k) }
 {
-    // Three indices: a map would need the table's bound of each edge in its closure.
-    let own = EDGES[k];
-    [s[own[0]], s[own[1]], s[own[2]]]
+    let [a, b, c] = VERTICES[k];
+    [s[edge_idx(a, b)], s[edge_idx(a, c)], s[edge_idx(b, c)]]
 }
 
 // The derivatives of its squared area by the ten squared lengths.
@@ -134,10 +124,10 @@ fn add_opposite(
     s: &[f64; 10],
     jacobian: &[f64; 100],
     k: usize,
-    matrix: &mut FreeMatrix<'_, '_>,
+    matrix: &mut SquareMatrix<'_>,
 )
     requires { k < 10 }
-    ensures { Scattered ◌⊕◌ (placed (length matrix.old.free_edges.now) at.now (triangle_adds s.now jacobian.now k)) matrix.old matrix.new }
+    ensures { Scattered ◌⊕◌ (placed matrix.old.n at.now (triangle_adds s.now jacobian.now k)) matrix.old matrix.new }
 {
     let own = lengths_opposite(s, k);
     let area = abs_area(own);
@@ -150,8 +140,8 @@ fn add_opposite(
 }
 
 // What a pentachoron of ten squared lengths adds.
-pub fn add_second(at: &[usize; 10], s: &[f64; 10], fd_eps: f64, matrix: &mut FreeMatrix<'_, '_>)
-    ensures { Scattered ◌⊕◌ (placed (length matrix.old.free_edges.now) at.now (second_adds s.now fd_eps)) matrix.old matrix.new }
+pub fn add_second(at: &[usize; 10], s: &[f64; 10], fd_eps: f64, matrix: &mut SquareMatrix<'_>)
+    ensures { Scattered ◌⊕◌ (placed matrix.old.n at.now (second_adds s.now fd_eps)) matrix.old matrix.new }
 {
     let jacobian = all_lorentzian_dihedrals_jacobian(s, fd_eps);
     for k in 0..10 {
@@ -183,9 +173,9 @@ fn add_diagonal(edges: TriangleEdges, s: [f64; 3], area: f64, deficit: f64, diag
     requires { Below (edge_list edges) (length diagonal.old) }
     ensures { diagonal.new ≡ scatter nan ◌⊕◌ (on_diagonal (edge_list edges) (nine_adds s area deficit)) diagonal.old }
 {
-    let own = [edges.0.0, edges.1.0, edges.2.0];
-    for i in 0..3 {
-        diagonal[own[i] as usize] += area_second(s, area, i, i) * deficit;
+    let own = edges.numbers();
+    for (i, edge) in own.iter().enumerate() {
+        diagonal[*edge as usize] += area_second(s, area, i, i) * deficit;
     }
 }
 
@@ -193,8 +183,8 @@ fn add_diagonal(edges: TriangleEdges, s: [f64; 3], area: f64, deficit: f64, diag
 const OTHERS: [(usize, usize); 6] = [(0, 1), (0, 2), (1, 0), (1, 2), (2, 0), (2, 1)];
 
 // What a triangle adds off the diagonal.
-fn put_others(at: [usize; 3], s: [f64; 3], area: f64, deficit: f64, matrix: &mut FreeMatrix<'_, '_>)
-    ensures { Scattered before (placed (length matrix.old.free_edges.now) at (off_diagonal (nine_adds s area deficit))) matrix.old matrix.new }
+fn put_others(at: [usize; 3], s: [f64; 3], area: f64, deficit: f64, matrix: &mut SquareMatrix<'_>)
+    ensures { Scattered before (placed matrix.old.n at (off_diagonal (nine_adds s area deficit))) matrix.old matrix.new }
 {
     for (i, j) in OTHERS {
         matrix.put_before(at[i], at[j], area_second(s, area, i, j) * deficit);
@@ -208,11 +198,11 @@ pub fn add_first(
     s: [f64; 3],
     deficit: f64,
     diagonal: &mut [f64],
-    matrix: &mut FreeMatrix<'_, '_>,
+    matrix: &mut SquareMatrix<'_>,
 )
     requires { Below (edge_list edges) (length diagonal.old) }
     ensures diagonal { diagonal.new ≡ scatter nan ◌⊕◌ (on_diagonal (edge_list edges) (first_adds s deficit)) diagonal.old }
-    ensures others { Scattered before (placed (length matrix.old.free_edges.now) at (off_diagonal (first_adds s deficit))) matrix.old matrix.new }
+    ensures others { Scattered before (placed matrix.old.n at (off_diagonal (first_adds s deficit))) matrix.old matrix.new }
 {
     let area = abs_area(s);
     if area < 1e-30 {

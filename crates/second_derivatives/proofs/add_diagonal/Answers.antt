@@ -1,5 +1,5 @@
 -- `second_derivatives::add_diagonal` meets its contract. Assumes nothing.
-use mathlib.Core.Path.{◌≡◌, refl, ◌∙◌}
+use mathlib.Core.Path.{◌≡◌, refl, ap, ◌∙◌}
 use native.Mathlib.Omega.{arith}
 use lib.Ieee.{nan}
 use lib.ListN.{length-set}
@@ -23,12 +23,12 @@ loop-i-preserved c =
     let a = c.args in
     let l = c.loop-i in (
       length-set l.diagonal _ _ ∙ l.invariant.0,
-      scatter-turn nan ◌⊕◌ (event (edge_list a.edges) a.s a.area a.deficit) l.i _ a.diagonal.now l.diagonal _ refl l.invariant.1 (rw c.area_second.ensures refl),
+      scatter-turn nan ◌⊕◌ (event (edge_list a.edges) a.s a.area a.deficit) l.i _ a.diagonal.now l.diagonal _ (ap (λ es. event es a.s a.area a.deficit l.i) c.numbers-own.ensures) l.invariant.1 (rw c.area_second.ensures refl),
     )
 
 pub returns : goal.returns
 unfolding on_diagonal nine_adds keep upto gather
 returns c =
     let l = c.loop-i in
-    let e : l.i ≡ 3 = omega (arith, c.loop-i-test.false, l.auto.i-end) in
+    let e : l.i ≡ 3 = omega arith in
     rw e at l.invariant.1

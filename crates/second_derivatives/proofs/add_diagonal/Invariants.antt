@@ -7,6 +7,7 @@ use lib.ListN.{length, get_or}
 use Rattle.floats.specs.Ops.{◌⊕◌, ◌⊗◌}
 use Rattle.lists.specs.Lists.{gather, upto}
 use Rattle.lists.specs.Loops.{scatter}
+use Rattle.incidence.specs.Incidence.{edge_list}
 use Rattle.second_derivatives.specs.SecondDerivatives.{area_second}
 use Rattle.second_derivatives.proofs.add_diagonal.Given as goal
 
@@ -16,4 +17,4 @@ event own s area deficit i = (get_or own i 0, area_second s area i i ⊗ deficit
 
 abbrev pub invariant-loop-i : goal.invariant-loop-i
 invariant-loop-i l =
-    (length l.diagonal ≡ length l.initial.diagonal) × (l.diagonal ≡ scatter nan ◌⊕◌ (gather (event l.own l.s l.area l.deficit) (upto l.i)) l.initial.diagonal)
+    (length l.diagonal ≡ length l.initial.diagonal) × (l.diagonal ≡ scatter nan ◌⊕◌ (gather (event (edge_list l.fn.edges) l.s l.area l.deficit) (upto l.i)) l.initial.diagonal)

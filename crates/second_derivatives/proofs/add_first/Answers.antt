@@ -2,7 +2,7 @@
 use mathlib.Core.Path.{refl}
 use Rattle.lists.specs.Lists.{keep, gather}
 use Rattle.lists.specs.Loops.{scatter}
-use Rattle.second_derivatives.specs.SecondDerivatives.{first_adds, nine_adds}
+use Rattle.second_derivatives.specs.SecondDerivatives.{first_adds}
 use Rattle.second_derivatives.specs.Parts.{on_diagonal, off_diagonal, placed, before}
 use Rattle.second_derivatives.proofs.Scattering.{scattered-none}
 use Rattle.second_derivatives.proofs.add_first.Goals as goal

@@ -3,7 +3,7 @@ use Prim.Native.Nat.{◌+◌, ◌*◌}
 use mathlib.Core.Path.{◌≡◌, refl}
 use native.Mathlib.Omega.{arith}
 use lib.Ieee.{nan, neg}
-use lib.ListN.{length, get_or}
+use lib.ListN.{get_or}
 use Rattle.floats.specs.Ops.{◌⊕◌, ◌⊗◌}
 use Rattle.lists.specs.Lists.{upto}
 use Rattle.second_derivatives.proofs.Placing.{placed-map}
@@ -18,11 +18,11 @@ pub loop-f-preserved : goal.loop-f-preserved
 loop-f-preserved c =
     let a = c.args in
     let l = c.loop-f in
-    scattered-turn ◌⊕◌ (event (length a.matrix.now.free_edges.now) a.at.now a.jacobian.now a.k a.e a.slope) l.f _ a.matrix.now l.matrix _ (rw l.invariant.free_edges refl) l.invariant c.add.ensures
+    scattered-turn ◌⊕◌ (event a.matrix.now.n a.at.now a.jacobian.now a.k a.e a.slope) l.f _ a.matrix.now l.matrix _ (rw l.invariant.size refl) l.invariant c.add.ensures
 
 pub returns : goal.returns
 returns c =
     let a = c.args in
     let l = c.loop-f in
-    let e : l.f ≡ 10 = omega (arith, c.loop-f-test.false, l.auto.f-end) in
-    rw (placed-map (length a.matrix.now.free_edges.now) a.at.now (λ f. ((a.e, f), a.slope ⊗ neg (get_or a.jacobian.now (10 * a.k + f) nan))) (upto 10)) (rw e at l.invariant)
+    let e : l.f ≡ 10 = omega arith in
+    rw (placed-map a.matrix.now.n a.at.now (λ f. ((a.e, f), a.slope ⊗ neg (get_or a.jacobian.now (10 * a.k + f) nan))) (upto 10)) (rw e at l.invariant)

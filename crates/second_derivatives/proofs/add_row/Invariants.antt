@@ -2,7 +2,7 @@
 use Prim.Native.Nat.{ℕ, ◌+◌, ◌*◌}
 use mathlib.Core.List.{List}
 use lib.Ieee.{Float, nan, neg}
-use lib.ListN.{length, get_or}
+use lib.ListN.{get_or}
 use Rattle.floats.specs.Ops.{◌⊕◌, ◌⊗◌}
 use Rattle.lists.specs.Lists.{gather, upto}
 use Rattle.second_derivatives.specs.Parts.{placed_in}
@@ -15,4 +15,4 @@ event n at jac k e slope f = placed_in n (get_or at e 0) (get_or at f 0) (slope 
 
 abbrev pub invariant-loop-f : goal.invariant-loop-f
 invariant-loop-f l =
-    Scattered ◌⊕◌ (gather (event (length l.initial.matrix.free_edges.now) l.at l.jacobian l.k l.e l.slope) (upto l.f)) l.initial.matrix l.matrix
+    Scattered ◌⊕◌ (gather (event l.initial.matrix.n l.at l.jacobian l.k l.e l.slope) (upto l.f)) l.initial.matrix l.matrix

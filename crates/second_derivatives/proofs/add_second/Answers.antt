@@ -1,7 +1,6 @@
 -- `second_derivatives::add_second` meets its contract. Assumes nothing.
 use mathlib.Core.Path.{◌≡◌, refl}
 use native.Mathlib.Omega.{arith}
-use lib.ListN.{length}
 use Rattle.floats.specs.Ops.{◌⊕◌}
 use Rattle.lists.specs.Lists.{upto}
 use Rattle.second_derivatives.specs.SecondDerivatives.{triangle_adds, second_adds}
@@ -17,7 +16,7 @@ pub loop-k-preserved : goal.loop-k-preserved
 loop-k-preserved c =
     let a = c.args in
     let l = c.loop-k in
-    scattered-turn ◌⊕◌ (event (length a.matrix.now.free_edges.now) a.at.now a.s.now c.all_lorentzian_dihedrals_jacobian-jacobian.result) l.k _ a.matrix.now l.matrix _ (rw l.invariant.free_edges refl) l.invariant c.add_opposite.ensures
+    scattered-turn ◌⊕◌ (event a.matrix.now.n a.at.now a.s.now c.all_lorentzian_dihedrals_jacobian-jacobian.result) l.k _ a.matrix.now l.matrix _ (rw l.invariant.size refl) l.invariant c.add_opposite.ensures
 
 pub returns : goal.returns
 unfolding second_adds
@@ -26,4 +25,4 @@ returns c =
     let l = c.loop-k in
     let j = c.all_lorentzian_dihedrals_jacobian-jacobian in
     let e : l.k ≡ 10 = omega (arith, c.loop-k-test.false, l.auto.k-end) in
-    rw (← j.ensures, placed-gather (length a.matrix.now.free_edges.now) a.at.now (triangle_adds a.s.now j.result) (upto 10)) (rw e at l.invariant)
+    rw (← j.ensures, placed-gather a.matrix.now.n a.at.now (triangle_adds a.s.now j.result) (upto 10)) (rw e at l.invariant)

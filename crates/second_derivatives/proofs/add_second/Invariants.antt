@@ -2,7 +2,6 @@
 use Prim.Native.Nat.{ℕ}
 use mathlib.Core.List.{List}
 use lib.Ieee.{Float}
-use lib.ListN.{length}
 use Rattle.floats.specs.Ops.{◌⊕◌}
 use Rattle.lists.specs.Lists.{gather, upto}
 use Rattle.second_derivatives.specs.SecondDerivatives.{triangle_adds}
@@ -16,4 +15,4 @@ event n at s jac k = placed n at (triangle_adds s jac k)
 
 abbrev pub invariant-loop-k : goal.invariant-loop-k
 invariant-loop-k l =
-    Scattered ◌⊕◌ (gather (event (length l.initial.matrix.free_edges.now) l.at l.s l.jacobian) (upto l.k)) l.initial.matrix l.matrix
+    Scattered ◌⊕◌ (gather (event l.initial.matrix.n l.at l.s l.jacobian) (upto l.k)) l.initial.matrix l.matrix

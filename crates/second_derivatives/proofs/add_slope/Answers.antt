@@ -1,6 +1,5 @@
 -- `second_derivatives::add_slope` meets its contract. Assumes nothing.
 use native.Mathlib.Omega.{arith}
-use lib.ListN.{length}
 use Rattle.floats.specs.Ops.{◌⊕◌}
 use Rattle.lists.specs.Lists.{gather}
 use Rattle.second_derivatives.specs.SecondDerivatives.{slope_row}
@@ -12,7 +11,7 @@ use Rattle.second_derivatives.proofs.add_slope.Goals as goal
 pub returns-then-at-e : goal.returns-then-at-e
 returns-then-at-e c =
     let a = c.args in
-    rw (row_absent (length a.matrix.now.free_edges.now) a.at.now a.slope a.jacobian.now a.k a.e (omega (arith, c.if-at-e.true))) (scattered-none ◌⊕◌ a.matrix.now)
+    rw (row_absent a.matrix.now.n a.at.now a.slope a.jacobian.now a.k a.e (omega (arith, c.if-at-e.true))) (scattered-none ◌⊕◌ a.matrix.now)
 
 pub returns-then-abs : goal.returns-then-abs
 unfolding slope_row placed gather

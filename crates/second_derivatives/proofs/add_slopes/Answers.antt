@@ -2,7 +2,7 @@
 use mathlib.Core.Path.{◌≡◌, refl}
 use native.Mathlib.Omega.{arith}
 use lib.Ieee.{nan}
-use lib.ListN.{length, get_or}
+use lib.ListN.{get_or}
 use Rattle.floats.specs.Ops.{◌⊕◌, ◌⊗◌}
 use Rattle.lists.specs.Lists.{upto}
 use Rattle.second_derivatives.specs.SecondDerivatives.{slope_row}
@@ -19,12 +19,12 @@ pub loop-e-preserved : goal.loop-e-preserved
 loop-e-preserved c =
     let a = c.args in
     let l = c.loop-e in
-    scattered-turn ◌⊕◌ (event (length a.matrix.now.free_edges.now) a.at.now a.jacobian.now a.k a.factor a.grad.now) l.e _ a.matrix.now l.matrix _ (rw l.invariant.free_edges refl) l.invariant c.add_slope.ensures
+    scattered-turn ◌⊕◌ (event a.matrix.now.n a.at.now a.jacobian.now a.k a.factor a.grad.now) l.e _ a.matrix.now l.matrix _ (rw l.invariant.size refl) l.invariant c.add_slope.ensures
 
 pub returns : goal.returns
 unfolding slope_rows
 returns c =
     let a = c.args in
     let l = c.loop-e in
-    let e : l.e ≡ 10 = omega (arith, c.loop-e-test.false, l.auto.e-end) in
-    rw (placed-gather (length a.matrix.now.free_edges.now) a.at.now (λ e. slope_row (a.factor ⊗ get_or a.grad.now e nan) a.jacobian.now a.k e) (upto 10)) (rw e at l.invariant)
+    let e : l.e ≡ 10 = omega arith in
+    rw (placed-gather a.matrix.now.n a.at.now (λ e. slope_row (a.factor ⊗ get_or a.grad.now e nan) a.jacobian.now a.k e) (upto 10)) (rw e at l.invariant)

@@ -2,7 +2,7 @@
 use Prim.Native.Nat.{ℕ}
 use mathlib.Core.List.{List}
 use lib.Ieee.{Float, nan}
-use lib.ListN.{length, get_or}
+use lib.ListN.{get_or}
 use Rattle.floats.specs.Ops.{◌⊕◌, ◌⊗◌}
 use Rattle.lists.specs.Lists.{gather, upto}
 use Rattle.second_derivatives.specs.SecondDerivatives.{slope_row}
@@ -16,4 +16,4 @@ event n at jac k factor grad e = placed n at (slope_row (factor ⊗ get_or grad 
 
 abbrev pub invariant-loop-e : goal.invariant-loop-e
 invariant-loop-e l =
-    Scattered ◌⊕◌ (gather (event (length l.initial.matrix.free_edges.now) l.at l.jacobian l.k l.factor l.grad) (upto l.e)) l.initial.matrix l.matrix
+    Scattered ◌⊕◌ (gather (event l.initial.matrix.n l.at l.jacobian l.k l.factor l.grad) (upto l.e)) l.initial.matrix l.matrix

@@ -1,25 +1,16 @@
 -- `second_derivatives::lengths_opposite` meets its contract. Assumes nothing.
-use native.Mathlib.Omega.{arith}
-use Rattle.second_derivatives.proofs.Opposites.{edge_below, lengths-are}
+use mathlib.Core.Path.{refl}
+use Rattle.second_derivatives.proofs.Opposites.{vertices-are, have-edges}
 use Rattle.second_derivatives.proofs.lengths_opposite.Goals as goal
 
-pub offset_bounds-s-own : goal.offset_bounds-s-own
-offset_bounds-s-own c = omega (arith, edge_below c.args.k c.requires 0 (omega arith))
+pub edge_idx-requires : goal.edge_idx-requires
+edge_idx-requires c = let v = have-edges c.args.k c.requires in (v.0, v.1, v.3)
 
-pub bounds-s-own : goal.bounds-s-own
-bounds-s-own c = edge_below c.args.k c.requires 0 (omega arith)
+pub edge_idx-requires-2 : goal.edge_idx-requires-2
+edge_idx-requires-2 c = let v = have-edges c.args.k c.requires in (v.0, v.2, v.4)
 
-pub offset_bounds-s-own-2 : goal.offset_bounds-s-own-2
-offset_bounds-s-own-2 c = omega (arith, edge_below c.args.k c.requires 1 (omega arith))
-
-pub bounds-s-own-2 : goal.bounds-s-own-2
-bounds-s-own-2 c = edge_below c.args.k c.requires 1 (omega arith)
-
-pub offset_bounds-s-own-3 : goal.offset_bounds-s-own-3
-offset_bounds-s-own-3 c = omega (arith, edge_below c.args.k c.requires 2 (omega arith))
-
-pub bounds-s-own-3 : goal.bounds-s-own-3
-bounds-s-own-3 c = edge_below c.args.k c.requires 2 (omega arith)
+pub edge_idx-requires-3 : goal.edge_idx-requires-3
+edge_idx-requires-3 c = let v = have-edges c.args.k c.requires in (v.1, v.2, v.5)
 
 pub returns : goal.returns
-returns c = lengths-are c.args.k c.requires c.args.s.now
+returns c = rw (c.edge_idx.ensures.0, c.edge_idx-2.ensures.0, c.edge_idx-3.ensures.0, vertices-are c.args.k c.requires) refl

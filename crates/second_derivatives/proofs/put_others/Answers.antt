@@ -1,7 +1,6 @@
 -- `second_derivatives::put_others` meets its contract. Assumes nothing.
 use mathlib.Core.Path.{◌≡◌, refl}
 use native.Mathlib.Omega.{arith}
-use lib.ListN.{length}
 use Rattle.lists.specs.Lists.{keep, gather, upto}
 use Rattle.second_derivatives.specs.SecondDerivatives.{nine_adds}
 use Rattle.second_derivatives.specs.Parts.{placed, off_diagonal, before}
@@ -16,7 +15,7 @@ pub loop-i-preserved : goal.loop-i-preserved
 loop-i-preserved c =
     let a = c.args in
     let l = c.loop-i in
-    scattered-turn before (event (length a.matrix.now.free_edges.now) a.at a.s a.area a.deficit) l.i-index _ a.matrix.now l.matrix _ (rw (l.invariant.free_edges, c.area_second.ensures) refl) l.invariant c.put_before.ensures
+    scattered-turn before (event a.matrix.now.n a.at a.s a.area a.deficit) l.i-index _ a.matrix.now l.matrix _ (rw (l.invariant.size, c.area_second.ensures) refl) l.invariant c.put_before.ensures
 
 pub returns : goal.returns
 unfolding placed off_diagonal nine_adds keep gather upto

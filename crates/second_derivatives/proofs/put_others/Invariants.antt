@@ -2,7 +2,7 @@
 use Prim.Native.Nat.{ℕ}
 use mathlib.Core.List.{List, [], ◌∷◌}
 use lib.Ieee.{Float}
-use lib.ListN.{length, get_or}
+use lib.ListN.{get_or}
 use Rattle.floats.specs.Ops.{◌⊗◌}
 use Rattle.lists.specs.Lists.{gather, upto}
 use Rattle.second_derivatives.specs.SecondDerivatives.{area_second}
@@ -22,4 +22,4 @@ event n at s area deficit k =
 
 abbrev pub invariant-loop-i : goal.invariant-loop-i
 invariant-loop-i l =
-    Scattered before (gather (event (length l.initial.matrix.free_edges.now) l.at l.s l.area l.deficit) (upto l.i-index)) l.initial.matrix l.matrix
+    Scattered before (gather (event l.initial.matrix.n l.at l.s l.area l.deficit) (upto l.i-index)) l.initial.matrix l.matrix

@@ -1,17 +1,13 @@
 -- `hessian::matrix::add_first_term` meets its contract. Assumes nothing.
-use mathlib.Core.Bool.{Bool, false}
 use Prim.Native.Nat.{ℕ}
 use mathlib.Core.List.{List}
 use mathlib.Core.Path.{◌≡◌, refl, ap, ◌∙◌}
-use native.Mathlib.Omega.{arith}
 use lib.Ieee.{Float, nan}
-use Rattle.floats.specs.Ops.{zero}
 use Rattle.lists.specs.Lists.{gather}
 use Rattle.lists.specs.Loops.{scatter}
 use Rattle.lists.proofs.Rows.{length-rows}
 use Rattle.complex.specs.Lent.{triangles_of, edges_of}
 use Rattle.marks.specs.Marks.{marked_below}
-use Rattle.marks.proofs.Marking.{scratch-room}
 use Rattle.hinges.specs.Hinges.{FaceLists, faces_of}
 use Rattle.hinges.specs.Local.{local_triangles}
 use Rattle.second_derivatives.specs.Parts.{before}
@@ -25,7 +21,7 @@ returns c =
     let x = c.args.complex.now in
     let F : FaceLists = faces_of x in
     let ls = c.args.sq_lengths.now in
-    let free = c.args.matrix.now.free_edges.now in
+    let free = c.args.free_edges.now in
     let m = c.mark_tris in
     let f = c.add_tris in
     let p = c.put_diagonal.ensures in
@@ -36,7 +32,6 @@ returns c =
       lent = p.lent ∙ f.ensures.others.lent;
       entries =
           p.entries
-          ∙ ap (λ (r : List ℕ). scatter nan ahead (diagonal_events r f.new.diagonal) f.new.matrix.entries.now) (ap (λ r. r.now) f.ensures.others.free_edges)
           ∙ ap (λ (s : List Float). scatter nan ahead (diagonal_events free s) f.new.matrix.entries.now) sums
           ∙ ap (scatter nan ahead (diagonal_events free _)) (f.ensures.others.entries ∙ ap (λ (own : List ℕ). scatter nan before (gather (first_at F ls free) own) c.args.matrix.now.entries.now) marked);
     }

@@ -1,6 +1,5 @@
 -- `hessian::matrix::add_pent` meets its contract. Assumes nothing.
 use native.Mathlib.Omega.{arith}
-use lib.ListN.{length}
 use Rattle.hinges.specs.Hinges.{faces_of}
 use Rattle.hinges.proofs.PentachoronSteps.{own-edges}
 use Rattle.hessian.proofs.HessianLoops.{second-event}
@@ -11,8 +10,8 @@ pent_sq_lengths-s-requires c =
     let a = c.args in
     own-edges c.requires.0 a.pent.0 c.requires.1 c.pent_edge_indices-own.result.now c.pent_edge_indices-own.ensures
 
-pub places-at-requires : goal.places-at-requires
-places-at-requires c =
+pub places_in-at-requires : goal.places_in-at-requires
+places_in-at-requires c =
     let a = c.args in
     (omega arith, (own-edges c.requires.0 a.pent.0 c.requires.1 c.pent_edge_indices-own.result.now c.pent_edge_indices-own.ensures).0)
 
@@ -21,5 +20,5 @@ returns c =
     let a = c.args in
     let o = c.pent_edge_indices-own in
     let s = c.pent_sq_lengths-s in
-    let p = c.places-at in
-    rw (← second-event (faces_of a.complex.now) a.sq_lengths.now a.matrix.now.free_edges.now o.result.now p.result s.result a.pent.0 p.ensures s.ensures a.fd_eps o.ensures) c.add_second.ensures
+    let p = c.places_in-at in
+    rw (← second-event (faces_of a.complex.now) a.sq_lengths.now a.free_edges.now o.result.now p.result a.matrix.now.n c.requires.2 s.result a.pent.0 p.ensures s.ensures a.fd_eps o.ensures) c.add_second.ensures

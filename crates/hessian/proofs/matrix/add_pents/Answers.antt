@@ -1,25 +1,42 @@
 -- `hessian::matrix::add_pents` meets its contract. Assumes nothing.
-use Prim.Native.Nat.{ℕ}
+use Rattle.std.proofs.Common.{get_or-take}
+use Prim.Native.Nat.{ℕ, ◌<◌}
+use mathlib.Core.Bool.{false}
 use mathlib.Core.List.{List}
-use mathlib.Core.Path.{◌≡◌, refl}
+use mathlib.Core.Path.{◌≡◌, refl, sym, ◌∙◌}
 use native.Mathlib.Omega.{arith}
 use lib.Ieee.{Float}
+use lib.ListN.{get_or, take}
+use lib.Seq.{length-take-le}
 use Rattle.floats.specs.Ops.{◌⊕◌}
 use Rattle.hinges.specs.Hinges.{faces_of}
 use Rattle.hessian.specs.Parts.{second_at}
 use Rattle.hessian.proofs.HessianLoops.{scattered-unmarked, scattered-here, scattered-past}
 use Rattle.hessian.proofs.matrix.add_pents.Goals as goal
-use Rattle.hessian.proofs.matrix.add_pents.Goals.{then-marks-p, else-marks-p}
+use Rattle.hessian.proofs.matrix.add_pents.Goals.{then-mark, else-mark}
 
 pub loop-p-init : goal.loop-p-init
 loop-p-init c = scattered-unmarked ◌⊕◌ _ _ _
+
+pub add_pent-requires : goal.add_pent-requires
+add_pent-requires c = (c.requires.0, omega (arith, length-take-le c.args.complex.now.counts.pentachorons c.args.marks.now c.requires.1), c.loop-p.invariant.size ∙ c.requires.2)
 
 pub loop-p-preserved : goal.loop-p-preserved
 loop-p-preserved c =
     let a = c.args in
     let l = c.loop-p in
-    let events : ℕ → List (ℕ × Float) = second_at (faces_of a.complex.now) a.sq_lengths.now a.matrix.now.free_edges.now a.fd_eps in
-    elim c.if-marks-p.branch [
-      | then-marks-p w ↦ rw w.matrix-is (scattered-here ◌⊕◌ events a.marks.now l.p a.matrix.now l.matrix l.invariant w.if-marks-p.true _ (rw l.invariant.free_edges refl) _ w.add_pent.ensures)
-      | else-marks-p w ↦ rw w.matrix-is (scattered-past ◌⊕◌ events a.marks.now l.p a.matrix.now l.matrix l.invariant w.if-marks-p.false)
+    let M = a.marks.now in
+    let n = a.complex.now.counts.pentachorons in
+    let h : l.p < n = omega (arith, length-take-le n M c.requires.1) in
+    let read : get_or (take n M) l.p false ≡ get_or M l.p false = get_or-take n M l.p false h in
+    let events : ℕ → List (ℕ × Float) = second_at (faces_of a.complex.now) a.sq_lengths.now a.free_edges.now a.fd_eps in
+    elim c.if-mark.branch [
+      | then-mark w ↦ rw w.matrix-is (scattered-here ◌⊕◌ events M l.p a.matrix.now l.matrix l.invariant (sym read ∙ w.if-mark.true) _ refl _ w.add_pent.ensures)
+      | else-mark w ↦ rw w.matrix-is (scattered-past ◌⊕◌ events M l.p a.matrix.now l.matrix l.invariant (sym read ∙ w.if-mark.false))
     ]
+
+pub returns : goal.returns
+returns c =
+    let n = c.args.complex.now.counts.pentachorons in
+    let e : c.loop-p.p ≡ n = omega (arith, c.loop-p-test.false, length-take-le n c.args.marks.now c.requires.1) in
+    rw e at c.loop-p.invariant

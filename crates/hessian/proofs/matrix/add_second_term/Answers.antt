@@ -9,4 +9,4 @@ pub returns : goal.returns
 returns c =
     let x = c.args.complex.now in
     let m = c.mark_pents in
-    rw (← on-free (pents_of x) (edges_of x) c.args.matrix.now.free_edges.now x.counts.pentachorons 8192 _ m.new.marks refl m.ensures (length-rows 5 x.counts.pentachorons x.pents.now) c.requires.0.few) c.add_pents.ensures
+    rw (← on-free (pents_of x) (edges_of x) c.args.free_edges.now x.counts.pentachorons 8192 _ m.new.marks refl m.ensures (length-rows 5 x.counts.pentachorons x.pents.now) c.requires.0.few) c.add_pents.ensures

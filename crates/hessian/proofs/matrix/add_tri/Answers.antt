@@ -1,9 +1,11 @@
 -- `hessian::matrix::add_tri` meets its contract. Assumes nothing.
+use mathlib.Core.Path.{◌≡◌, ap, ◌∙◌}
 use native.Mathlib.Omega.{arith}
 use lib.ListN.{length}
 use Rattle.incidence.specs.Incidence.{edge_list}
 use Rattle.hinges.specs.Hinges.{FaceLists, faces_of}
 use Rattle.hinges.proofs.TriangleSteps.{edges-below}
+use Rattle.second_derivatives.specs.Parts.{places_in}
 use Rattle.hessian.proofs.HessianLoops.{diagonal-event, first-event}
 use Rattle.hessian.proofs.matrix.add_tri.Goals as goal
 
@@ -25,10 +27,12 @@ returns c =
     let o = c.tri_edge_indices-own in
     let h = c.hinge_at-hinge in
     let s = c.tri_sq_lengths-s in
-    let p = c.places-at in
+    let p = c.places_in-at in
     let ls = a.sq_lengths.now in
-    let free = a.matrix.now.free_edges.now in
+    let free = a.free_edges.now in
+    let n = a.matrix.now.n in
+    let at : p.result ≡ places_in free (edge_list o.result) = p.ensures ∙ ap (λ es. places_in free es) c.numbers.ensures in
     record {
-      diagonal = rw (← diagonal-event F ls free (edge_list o.result) p.result s.result a.tri.0 p.ensures s.ensures h.result o.ensures h.ensures) c.add_first.ensures.diagonal;
-      others = rw (← first-event F ls free (edge_list o.result) p.result s.result a.tri.0 p.ensures s.ensures h.result o.ensures h.ensures) c.add_first.ensures.others;
+      diagonal = rw (← diagonal-event F ls free (edge_list o.result) p.result n c.requires.3 s.result a.tri.0 at s.ensures h.result o.ensures h.ensures) c.add_first.ensures.diagonal;
+      others = rw (← first-event F ls free (edge_list o.result) p.result n c.requires.3 s.result a.tri.0 at s.ensures h.result o.ensures h.ensures) c.add_first.ensures.others;
     }

@@ -16,4 +16,4 @@ abbrev pub invariant-loop-t : goal.invariant-loop-t
 invariant-loop-t l =
     (length l.diagonal ≡ length l.initial.diagonal)
     × (l.diagonal ≡ scatter nan ◌⊕◌ (gather (diagonal_at (faces_of l.complex) l.sq_lengths) (marked_below l.t l.marks)) l.initial.diagonal)
-    × Scattered before (gather (first_at (faces_of l.complex) l.sq_lengths l.initial.matrix.free_edges.now) (marked_below l.t l.marks)) l.initial.matrix l.matrix
+    × Scattered before (gather (first_at (faces_of l.complex) l.sq_lengths l.free_edges) (marked_below l.t l.marks)) l.initial.matrix l.matrix

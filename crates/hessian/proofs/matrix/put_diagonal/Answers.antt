@@ -4,7 +4,7 @@ use mathlib.Core.Path.{◌≡◌, refl}
 use native.Mathlib.Omega.{arith}
 use lib.Ieee.{Float, nan}
 use lib.ListN.{length, get_or}
-use Rattle.lists.specs.Lists.{gather, upto}
+use Rattle.lists.specs.Lists.{upto}
 use Rattle.lists.specs.Loops.{scatter}
 use Rattle.second_derivatives.proofs.Scattering.{scattered-start, scattered-turn}
 use Rattle.hessian.specs.Steps.{ahead, diagonal_events}
@@ -20,13 +20,13 @@ unfolding scatter
 loop-i-preserved c =
     let a = c.args in
     let l = c.loop-i in
-    let e = event a.matrix.now.free_edges.now a.diagonal.now in
-    scattered-turn ahead e l.i (e l.i) a.matrix.now l.matrix _ refl l.invariant (record { free_edges = refl; lent = refl; entries = refl })
+    let e = event a.free_edges.now a.diagonal.now in
+    scattered-turn ahead e l.i (e l.i) a.matrix.now l.matrix _ refl l.invariant (record { size = refl; lent = refl; entries = refl })
 
 pub returns : goal.returns
 unfolding diagonal_events
 returns c =
     let l = c.loop-i in
-    let free = c.args.matrix.now.free_edges.now in
-    let e : l.i ≡ length free = omega (arith, c.loop-i-test.false, l.auto.i-end) in
+    let free = c.args.free_edges.now in
+    let e : l.i ≡ length free = omega arith in
     rw (← gather-ones {B = ℕ × Float} (λ i. (i * length free + i, get_or c.args.diagonal.now (get_or free i 0) nan)) (upto (length free))) (rw e at l.invariant)

@@ -13,4 +13,4 @@ abbrev pub event : List ℕ → List Float → ℕ → List (ℕ × Float)
 event free sums i = (i * length free + i, get_or sums (get_or free i 0) nan) ∷ []
 
 abbrev pub invariant-loop-i : goal.invariant-loop-i
-invariant-loop-i l = Scattered ahead (gather (event l.initial.matrix.free_edges.now l.diagonal) (upto l.i)) l.initial.matrix l.matrix
+invariant-loop-i l = Scattered ahead (gather (event l.free_edges l.diagonal) (upto l.i)) l.initial.matrix l.matrix

@@ -1,11 +1,10 @@
--- `second_derivatives::matrix::index_of` meets its contract. Assumes nothing.
+-- `second_derivatives::places::index_of` meets its contract. Assumes nothing.
 use Rattle.std.proofs.Common.{rules, tests}
-use mathlib.Core.Path.{◌≡◌, refl, sym, ◌∙◌}
 use lib.Dec.{eqb}
 use Rattle.std.proofs.lemmas.Iterator.{YieldsList-from_slice}
 use Rattle.std.proofs.lemmas.Iterator.Search.{position_from_yields_List}
 use Rattle.second_derivatives.proofs.Placing.{index-found}
-use Rattle.second_derivatives.proofs.matrix.index_of.Goals as goal
+use Rattle.second_derivatives.proofs.places.index_of.Goals as goal
 
 pub returns : goal.returns
 returns c =
