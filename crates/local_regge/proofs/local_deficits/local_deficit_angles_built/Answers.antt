@@ -1,19 +1,19 @@
 -- `local_regge::local_deficits::local_deficit_angles_built` meets its contract. Assumes nothing.
 use Rattle.std.proofs.Common.{get_or-take}
 use Prim.Native.Nat.{◌≤◌, ◌<◌}
-use mathlib.Core.Bool.{false, ◌||◌}
+use mathlib.Core.Bool.{◌||◌}
 use mathlib.Core.List.{map}
 use mathlib.Core.Path.{◌≡◌, sym, ap, ◌∙◌, subst}
 use native.Mathlib.Omega.{arith}
 use lib.Dec.{ltb}
-use lib.ListN.{length, get_or, take}
+use lib.ListN.{length, take}
 use lib.Seq.{length-take-le}
 use borrow.Author.Tests.{ltb-false}
 use Rattle.lists.specs.Rows.{over}
 use Rattle.lists.proofs.Rows.{over-take}
 use Rattle.complex.proofs.Offences.{or-false}
 use Rattle.marks.specs.Marks.{marked_below}
-use Rattle.marks.proofs.Marking.{marked-most, listed_below}
+use Rattle.marks.proofs.Marking.{listed_below}
 use Rattle.hinges.specs.Hinges.{hinges, hinge_in, deficits_of, kinds_of, faces_of}
 use Rattle.hinges.specs.Local.{local_triangles}
 use Rattle.calls.specs.Calls.{room_check_of}
