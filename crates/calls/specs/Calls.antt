@@ -1,7 +1,7 @@
 -- What calls over a complex and its squared lengths share: when they are refused, a count as their answer, and a list that they fill. Definitions only.
 use Rattle.refusals.specs.declared.Refusal.{Refusal}
 use Rattle.std.specs.Prelude.{ℕ, Bool, true, not, cond, ◌||◌, List, ◌≡◌, eqb, ltb, Float, Err, Ok, Result}
-use Rattle.refusals.specs.Refusals.{number_of, Done, Outcome, answer_by, number_in, value_or}
+use Rattle.refusals.specs.Refusals.{Done, Outcome}
 use Rattle.refusals.specs.declared.Refusal.TheVariants.{ShortRoom, NotBuilt, LengthCount, EdgeTooLarge, RepeatedEdge, BadIndex}
 use Rattle.complex.specs.declared.Counts.{Counts}
 use Rattle.complex.specs.Builder.{Lists, too_large, repeats}
@@ -16,6 +16,11 @@ pub record BuiltWith (c : Counts) (l : Lists) (pe pt : List ℕ) : Type 0 where
   pub noted : Noted (pents_in c l.pents) pe pt
 
 -- ---- refusals
+
+-- what a check says that hands out a value
+abbrev pub outcome_of : {A : Type 0} → Result A Refusal → Outcome
+outcome_of (Ok a) = Done
+outcome_of (Err r) = Err r
 
 -- 7 where the complex is not built, then what the other checks say
 unfoldable pub built_check_of : Counts → Lists → Outcome → Outcome

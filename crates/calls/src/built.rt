@@ -1,8 +1,8 @@
 // A complex that is known to be built.
-ghost use Rattle.std.specs.Prelude.{◌≡◌, ◌≤◌, length};
+ghost use Rattle.std.specs.Prelude.{◌≡◌, ◌≤◌, length, IfOk};
 ghost use Rattle.refusals.specs.Refusals.{Done};
 ghost use Rattle.complex.specs.Lent.{lists_of};
-ghost use Rattle.calls.specs.Calls.{BuiltWith, built_check_of};
+ghost use Rattle.calls.specs.Calls.{BuiltWith, built_check_of, outcome_of};
 
 use comparison::is_built_noting;
 use complex::{Complex, Incidence};
@@ -17,19 +17,26 @@ pub struct BuiltComplex<'a> {
     ghost built_with: { BuiltWith complex.counts (lists_of complex) incidence.pent_edges.now incidence.pent_tris.now },
 }
 
-// 7 where a complex is not built; where it is, the numbers of its pentachorons' edges and triangles are noted. Each call over a
-// complex begins with it.
-pub fn check_noting(
-    complex: &Complex<'_>,
-    pent_edges: &mut [u32],
-    pent_tris: &mut [u32],
-) -> Result<(), Refusal>
+// A built complex with the numbers of its pentachorons' edges and triangles, or 7. Each call over a complex begins with it, and lends
+// the two lists for the numbers: memory is fixed.
+#[tactic(auto, unfolding(crate::specs::Calls::built_check_of))]
+pub fn check_complex<'a>(
+    complex: Complex<'a>,
+    pent_edges: &'a mut [u32],
+    pent_tris: &'a mut [u32],
+) -> Result<BuiltComplex<'a>, Refusal>
     requires { (81920 ≤ length pent_edges.old) × (81920 ≤ length pent_tris.old) }
-    ensures outcome { result ≡ built_check_of complex.now.counts (lists_of complex.now) Done }
-    ensures noted { result ≡ Done → BuiltWith complex.now.counts (lists_of complex.now) pent_edges.new pent_tris.new }
+    ensures outcome { outcome_of result ≡ built_check_of complex.entry.counts (lists_of complex.entry) Done }
+    ensures own { IfOk result (λ b. b.complex ≡ complex.entry) }
 {
-    if !is_built_noting(complex, pent_edges, pent_tris) {
+    if !is_built_noting(&complex, pent_edges, pent_tris) {
         return Err(Refusal::NotBuilt);
     }
-    Ok(())
+    Ok(BuiltComplex {
+        complex,
+        incidence: Incidence {
+            pent_edges,
+            pent_tris,
+        },
+    })
 }

@@ -7,7 +7,7 @@ ghost use Rattle.std.specs.Prelude.{◌≡◌, ◌≤◌};
 ghost use Rattle.refusals.specs.Refusals.{Done};
 ghost use Rattle.calls.specs.Calls.{lengths_check_of, free_check_of, room_check_of, triangle_check_of, short_table};
 
-pub use built::{BuiltComplex, check_noting};
+pub use built::{BuiltComplex, check_complex};
 use complex::{Counts, too_large};
 use incidence::TriangleNumber;
 use marks::stands_twice;
@@ -51,14 +51,10 @@ pub fn check_room(short: bool) -> Result<(), Refusal>
 }
 
 // 5 where a list of deficits or of kinds has fewer places than there are triangles.
-#[tactic(auto, unfolding(crate::specs::Calls::room_check_of))]
 pub fn check_table(counts: Counts, deficits: usize, kinds: usize) -> Result<(), Refusal>
     ensures { result ≡ room_check_of (short_table counts deficits kinds) }
 {
-    if deficits < counts.triangles || kinds < counts.triangles {
-        return Err(Refusal::ShortRoom);
-    }
-    Ok(())
+    check_room(deficits < counts.triangles || kinds < counts.triangles)
 }
 
 // 11 where there is no triangle of that number.

@@ -12,8 +12,8 @@ ghost use Rattle.calls.specs.Calls.{built_check_of, lengths_check_of, room_check
 ghost use Rattle.retouch.specs.Retouch.{edge_check_of};
 ghost use Rattle.hinge_table.specs.Table.{short_records, TableWorked, TableRetouched};
 
-use calls::{BuiltComplex, check_lengths, check_noting, check_room};
-use complex::{Complex, Incidence};
+use calls::{BuiltComplex, check_complex, check_lengths, check_room};
+use complex::Complex;
 pub use hinges::Hinge;
 use hinges::hinge_at;
 use incidence::{EdgeNumber, TriangleNumber};
@@ -27,9 +27,10 @@ fn write_all(built: &BuiltComplex<'_>, sq_lengths: &[f64], table: &mut [Hinge])
     requires { (length sq_lengths.now ≡ built.now.complex.counts.edges) × (built.now.complex.counts.triangles ≤ length table.old) }
     ensures { table.new ≡ over (hinges (faces_of built.now.complex) sq_lengths.now) table.old }
 {
-    for t in 0..built.complex.counts.triangles {
+    let n = built.complex.counts.triangles;
+    for (t, record) in table[..n].iter_mut().enumerate() {
         let tri = TriangleNumber(t as u32);
-        table[t] = hinge_at(&built.complex, &built.incidence, sq_lengths, tri);
+        *record = hinge_at(&built.complex, &built.incidence, sq_lengths, tri);
     }
 }
 
@@ -62,21 +63,14 @@ pub fn lorentzian_deficit_angles(
 {
     let mut pent_edges = [0u32; 81920];
     let mut pent_tris = [0u32; 81920];
-    check_noting(complex, &mut pent_edges, &mut pent_tris)?;
-    let incidence = Incidence {
-        pent_edges: &pent_edges,
-        pent_tris: &pent_tris,
-    };
-    let built = BuiltComplex {
-        complex: *complex,
-        incidence,
-    };
+    let built = check_complex(*complex, &mut pent_edges, &mut pent_tris)?;
     deficit_angles_of(&built, sq_lengths, table)
 }
 
 // ---- the retouch
 
-// Writes the records of the triangles of a list, each at its own place.
+// Writes the records of the triangles of a list, each at its own place. A trait for this and for the loop of `retouch` over two lists
+// would be longer than both.
 fn write_records(built: &BuiltComplex<'_>, sq_lengths: &[f64], tris: &[u32], table: &mut [Hinge])
     requires { (length sq_lengths.now ≡ built.now.complex.counts.edges)
         × Below tris.now built.now.complex.counts.triangles × (built.now.complex.counts.triangles ≤ length table.old) }
@@ -126,14 +120,6 @@ pub fn retouch(
 {
     let mut pent_edges = [0u32; 81920];
     let mut pent_tris = [0u32; 81920];
-    check_noting(complex, &mut pent_edges, &mut pent_tris)?;
-    let incidence = Incidence {
-        pent_edges: &pent_edges,
-        pent_tris: &pent_tris,
-    };
-    let built = BuiltComplex {
-        complex: *complex,
-        incidence,
-    };
+    let built = check_complex(*complex, &mut pent_edges, &mut pent_tris)?;
     retouch_of(&built, sq_lengths, edge, sq_length, table)
 }

@@ -1,4 +1,5 @@
 // The deficits of the triangles on free edges.
+// Three lists, and kinds as bytes: they are lent over the C interface.
 ghost use Rattle.std.specs.Prelude.{◌≡◌, ◌||◌, map, ◌≤◌, ltb, length};
 ghost use Rattle.lists.specs.Rows.{over};
 ghost use Rattle.lists.specs.Groups.{Below};
@@ -7,8 +8,8 @@ ghost use Rattle.hinges.specs.Hinges.{faces_of, hinges, hinge_in, deficits_of, k
 ghost use Rattle.calls.specs.Calls.{lengths_check_of, free_check_of, built_check_of, room_check_of};
 ghost use Rattle.local_regge.specs.LocalCalls.{short_local, LocallyTabled};
 
-use calls::{BuiltComplex, check_free, check_lengths, check_noting, check_room};
-use complex::{Complex, Incidence};
+use calls::{BuiltComplex, check_complex, check_free, check_lengths, check_room};
+use complex::Complex;
 use hinges::hinge_at;
 use incidence::TriangleNumber;
 use marks::{count_marked, list_marked, mark_tris};
@@ -21,7 +22,8 @@ fn lacks_room(count: usize, tris: usize, deficits: usize, kinds: usize) -> bool
     tris < count || deficits < count || kinds < count
 }
 
-// Writes the deficits and kinds of the triangles of a list.
+// Writes the deficits and kinds of the triangles of a list. By the index: of what is written through a zip of `iter_mut` a proof knows
+// no element.
 fn write_hinges(
     built: &BuiltComplex<'_>,
     sq_lengths: &[f64],
@@ -89,14 +91,6 @@ pub fn local_deficit_angles(
 {
     let mut pent_edges = [0u32; 81920];
     let mut pent_tris = [0u32; 81920];
-    check_noting(complex, &mut pent_edges, &mut pent_tris)?;
-    let incidence = Incidence {
-        pent_edges: &pent_edges,
-        pent_tris: &pent_tris,
-    };
-    let built = BuiltComplex {
-        complex: *complex,
-        incidence,
-    };
+    let built = check_complex(*complex, &mut pent_edges, &mut pent_tris)?;
     local_deficit_angles_built(&built, sq_lengths, free_edges, tris, deficits, kinds)
 }

@@ -13,8 +13,8 @@ ghost use Rattle.hinges.specs.Action.{contributions};
 ghost use Rattle.calls.specs.Calls.{lengths_check_of, free_check_of, built_check_of, room_check_of};
 ghost use Rattle.local_regge.specs.LocalCalls.{LocallyGraded};
 
-use calls::{BuiltComplex, check_free, check_lengths, check_noting, check_room};
-use complex::{Complex, Incidence};
+use calls::{BuiltComplex, check_complex, check_free, check_lengths, check_room};
+use complex::Complex;
 use hinges::{add_contributions, hinge_at, tri_sq_lengths};
 use incidence::{TriangleNumber, tri_edge_indices};
 use marks::mark_tris;
@@ -42,7 +42,8 @@ fn add_marked_contributions(
     }
 }
 
-// Writes the entries of free edges, in the order of the list.
+// Writes the entries of free edges, in the order of the list. By the index: of what is written through a zip of `iter_mut` a proof
+// knows no element.
 fn write_entries(free_edges: &[u32], entries: &[f64], grad: &mut [f64])
     requires { Below free_edges.now (length entries.now) × (length free_edges.now ≤ length grad.old) }
     ensures { grad.new ≡ over (map (λ e. get_or entries.now e nan) free_edges.now) grad.old }
@@ -89,14 +90,6 @@ pub fn local_lorentzian_regge_action_grad(
 {
     let mut pent_edges = [0u32; 81920];
     let mut pent_tris = [0u32; 81920];
-    check_noting(complex, &mut pent_edges, &mut pent_tris)?;
-    let incidence = Incidence {
-        pent_edges: &pent_edges,
-        pent_tris: &pent_tris,
-    };
-    let built = BuiltComplex {
-        complex: *complex,
-        incidence,
-    };
+    let built = check_complex(*complex, &mut pent_edges, &mut pent_tris)?;
     local_lorentzian_regge_action_grad_built(&built, sq_lengths, free_edges, grad)
 }

@@ -5,8 +5,8 @@ ghost use Rattle.hinges.specs.Hinges.{faces_of};
 ghost use Rattle.hessian.specs.Hessian.{local_hessian};
 ghost use Rattle.calls.specs.Calls.{lengths_check_of, free_check_of, built_check_of, room_check_of, Filled};
 
-use calls::{BuiltComplex, check_free, check_lengths, check_noting, check_room};
-use complex::{Complex, Incidence};
+use calls::{BuiltComplex, check_complex, check_free, check_lengths, check_room};
+use complex::Complex;
 use hessian::write_hessian;
 use refusals::Refusal;
 
@@ -53,14 +53,6 @@ pub fn local_lorentzian_regge_hessian(
 {
     let mut pent_edges = [0u32; 81920];
     let mut pent_tris = [0u32; 81920];
-    check_noting(complex, &mut pent_edges, &mut pent_tris)?;
-    let incidence = Incidence {
-        pent_edges: &pent_edges,
-        pent_tris: &pent_tris,
-    };
-    let built = BuiltComplex {
-        complex: *complex,
-        incidence,
-    };
+    let built = check_complex(*complex, &mut pent_edges, &mut pent_tris)?;
     local_lorentzian_regge_hessian_built(&built, sq_lengths, free_edges, fd_eps, hessian)
 }

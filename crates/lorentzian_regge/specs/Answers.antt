@@ -1,7 +1,7 @@
 -- Deficits, action and gradient over a complex: what the calls answer, and what they leave in the lent lists. Definitions only.
 use Rattle.refusals.specs.declared.Refusal.{Refusal}
 use Rattle.std.specs.Prelude.{ℕ, Bool, List, ◌≡◌, ltb, Float, Err, Ok, Result}
-use Rattle.refusals.specs.Refusals.{number_of, Done, Outcome, answer_by, number_in, value_or}
+use Rattle.refusals.specs.Refusals.{Outcome}
 use Rattle.complex.specs.declared.Counts.{Counts}
 use Rattle.complex.specs.Check.{written_after}
 use Rattle.lorentzian.specs.Dihedral.{kind_number}

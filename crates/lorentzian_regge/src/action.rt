@@ -6,8 +6,8 @@ ghost use Rattle.hinges.specs.Hinges.{faces_of};
 ghost use Rattle.hinges.specs.Action.{action_of, action};
 ghost use Rattle.calls.specs.Calls.{lengths_check_of, built_check_of};
 
-use calls::{BuiltComplex, check_lengths, check_noting};
-use complex::{Complex, Incidence};
+use calls::{BuiltComplex, check_complex, check_lengths};
+use complex::Complex;
 use hinges::{abs_area, tri_sq_lengths};
 use incidence::{TriangleNumber, tri_edge_indices};
 use one_pass::write_table;
@@ -56,14 +56,6 @@ pub fn lorentzian_regge_action(complex: &Complex<'_>, sq_lengths: &[f64]) -> Res
 {
     let mut pent_edges = [0u32; 81920];
     let mut pent_tris = [0u32; 81920];
-    check_noting(complex, &mut pent_edges, &mut pent_tris)?;
-    let incidence = Incidence {
-        pent_edges: &pent_edges,
-        pent_tris: &pent_tris,
-    };
-    let built = BuiltComplex {
-        complex: *complex,
-        incidence,
-    };
+    let built = check_complex(*complex, &mut pent_edges, &mut pent_tris)?;
     lorentzian_regge_action_built(&built, sq_lengths)
 }

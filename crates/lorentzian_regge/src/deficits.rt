@@ -1,4 +1,5 @@
 // The deficits of all triangles, and of one.
+// Two lists, and kinds as bytes: they are lent over the C interface.
 ghost use Rattle.std.specs.Prelude.{◌≡◌, length};
 ghost use Rattle.refusals.specs.Refusals.{answer_by};
 ghost use Rattle.complex.specs.Lent.{lists_of};
@@ -6,8 +7,8 @@ ghost use Rattle.hinges.specs.Hinges.{faces_of, hinges, hinge_in};
 ghost use Rattle.calls.specs.Calls.{lengths_check_of, built_check_of, room_check_of, triangle_check_of, short_table};
 ghost use Rattle.lorentzian_regge.specs.Answers.{Tabled};
 
-use calls::{BuiltComplex, check_lengths, check_noting, check_table, check_triangle};
-use complex::{Complex, Incidence};
+use calls::{BuiltComplex, check_complex, check_lengths, check_table, check_triangle};
+use complex::Complex;
 use hinges::{Hinge, hinge_at};
 use incidence::TriangleNumber;
 use one_pass::write_table;
@@ -51,18 +52,9 @@ pub fn lorentzian_deficit_angles(
         (lengths_check_of complex.now.counts (length sq_lengths.now) (room_check_of (short_table complex.now.counts (length deficits.old) (length kinds.old)))))
         (faces_of complex.now) sq_lengths.now deficits.old kinds.old result deficits.new kinds.new }
 {
-    // One function for these lines, with the rest of the call as a closure: tried, and the proof didn't close, since what a closure leaves in a lent list where it ends by `?` isn't known.
     let mut pent_edges = [0u32; 81920];
     let mut pent_tris = [0u32; 81920];
-    check_noting(complex, &mut pent_edges, &mut pent_tris)?;
-    let incidence = Incidence {
-        pent_edges: &pent_edges,
-        pent_tris: &pent_tris,
-    };
-    let built = BuiltComplex {
-        complex: *complex,
-        incidence,
-    };
+    let built = check_complex(*complex, &mut pent_edges, &mut pent_tris)?;
     lorentzian_deficit_angles_built(&built, sq_lengths, deficits, kinds)
 }
 
@@ -95,14 +87,6 @@ pub fn lorentzian_deficit_angle(
 {
     let mut pent_edges = [0u32; 81920];
     let mut pent_tris = [0u32; 81920];
-    check_noting(complex, &mut pent_edges, &mut pent_tris)?;
-    let incidence = Incidence {
-        pent_edges: &pent_edges,
-        pent_tris: &pent_tris,
-    };
-    let built = BuiltComplex {
-        complex: *complex,
-        incidence,
-    };
+    let built = check_complex(*complex, &mut pent_edges, &mut pent_tris)?;
     lorentzian_deficit_angle_built(&built, sq_lengths, tri)
 }

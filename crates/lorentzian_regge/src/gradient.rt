@@ -10,8 +10,8 @@ ghost use Rattle.hinges.specs.Action.{contributions};
 ghost use Rattle.calls.specs.Calls.{lengths_check_of, built_check_of, room_check_of};
 ghost use Rattle.lorentzian_regge.specs.Answers.{short_gradient, Graded};
 
-use calls::{BuiltComplex, check_lengths, check_noting, check_room};
-use complex::{Complex, Incidence};
+use calls::{BuiltComplex, check_complex, check_lengths, check_room};
+use complex::Complex;
 use hinges::{add_contributions, tri_sq_lengths, zero_all};
 use incidence::{TriangleNumber, tri_edge_indices};
 use one_pass::write_table;
@@ -75,14 +75,6 @@ pub fn lorentzian_regge_action_grad(
 {
     let mut pent_edges = [0u32; 81920];
     let mut pent_tris = [0u32; 81920];
-    check_noting(complex, &mut pent_edges, &mut pent_tris)?;
-    let incidence = Incidence {
-        pent_edges: &pent_edges,
-        pent_tris: &pent_tris,
-    };
-    let built = BuiltComplex {
-        complex: *complex,
-        incidence,
-    };
+    let built = check_complex(*complex, &mut pent_edges, &mut pent_tris)?;
     lorentzian_regge_action_grad_built(&built, sq_lengths, grad)
 }

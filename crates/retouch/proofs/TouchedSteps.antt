@@ -4,14 +4,14 @@ use Rattle.std.specs.Prelude.{Err}
 use Prim.Native.Nat.{ℕ, ◌+◌, ◌≤◌, ◌<◌}
 use mathlib.Core.Bool.{Bool, true, false, cond}
 use mathlib.Core.List.{List, [], ◌++◌}
-use mathlib.Core.Path.{◌≡◌, refl, sym, ap, ◌∙◌}
+use mathlib.Core.Path.{◌≡◌, refl, sym, ap, ◌∙◌, subst}
 use native.Mathlib.Numerals.{add-one}
 use native.Mathlib.Omega.{arith}
 use lib.Dec.{ltb}
 use lib.Ieee.{Float}
 use lib.ListN.{length, get_or, take, replicate}
 use lib.Seq.{take-suc}
-use Rattle.std.proofs.lemmas.List.{length-take-le}
+use Rattle.std.proofs.lemmas.List.{length-take-le, get_or-take}
 use borrow.Author.Tests.{ltb-true, ltb-false}
 use Rattle.refusals.specs.declared.Refusal.{Refusal}
 use Rattle.refusals.specs.declared.Refusal.TheVariants.{EdgeTooLarge}
@@ -51,9 +51,9 @@ triangles-next F is k h =
     ∙ gather-snoc (λ i. row_numbers F.triangles 3 (get_or F.pents i [])) (take k is) (get_or is k 0)
 
 -- they have places in lists with one for each triangle
-pub triangles-below : (c : Counts) (pents triangles : List ℕ) → Found (triangles_in c triangles) 3 (pents_in c pents) → (p : ℕ) → p < c.pentachorons
-    → (own : List ℕ) → own ≡ row_numbers (triangles_in c triangles) 3 (get_or (pents_in c pents) p []) → (m : ℕ) → c.triangles ≤ m → Below own m
-triangles-below c pents triangles found p inside own e m h =
+pub triangles-below : (c : Counts) (pents triangles : List ℕ) → Found (triangles_in c triangles) 3 (pents_in c pents) → (own : List ℕ) (p : ℕ) → own ≡ row_numbers (triangles_in c triangles) 3 (get_or (pents_in c pents) p [])
+    → p < c.pentachorons → (m : ℕ) → c.triangles ≤ m → Below own m
+triangles-below c pents triangles found own p e inside m h =
     let r = get_or (pents_in c pents) p [] in
     let at = get_or-mem (pents_in c pents) p [] (rw (length-rows 5 c.pentachorons pents) inside) in
     rw e (λ i l. omega (arith, numbers-below (triangles_in c triangles) 3 r (λ s q. found r s at q) i l, length-rows 3 c.triangles triangles))
@@ -152,12 +152,17 @@ retouch-passed b n e lengths edge =
 
 -- ---- the lists that are lent
 
--- the scratch in which the touched triangles were listed: they are its beginning, there is room for them, and each is a triangle
+-- the scratch in which the touched triangles were listed: they are its beginning, there is room for them, and each of those first is a triangle
 pub record Listed (x : Complex) (e count : ℕ) (tris : List ℕ) : Type 0 where
   pub own : take count tris ≡ touched (faces_of x) e
   pub room : count ≤ length tris
-  pub many : count ≡ length (take count tris)
-  pub below : Below (take count tris) x.counts.triangles
+  pub below : (n : ℕ) → n ≤ count → Below (take n tris) x.counts.triangles
+
+-- what holds of the first numbers of a list holds of fewer of them
+below-take : (n count m : ℕ) (tris : List ℕ) → count ≤ length tris → n ≤ count → Below (take count tris) m → Below (take n tris) m
+below-take n count m tris room h all k i =
+    let few : k < n = omega (arith, i, length-take-le n tris (omega (arith, room, h))) in
+    subst (λ (t : ℕ). t < m) (get_or-take count tris k 0 (omega (arith, few, h)) ∙ sym (get_or-take n tris k 0 few)) (all k (omega (arith, few, h, length-take-le count tris room)))
 
 -- it is so after they were listed in scratch with a place for each triangle
 pub listed-touched : (x : Complex) (e count : ℕ) (old tris : List ℕ) → x.counts.triangles ≤ length old → length tris ≡ length old → count ≡ length (touched (faces_of x) e) → tris ≡ over (touched (faces_of x) e) old
@@ -165,7 +170,8 @@ pub listed-touched : (x : Complex) (e count : ℕ) (old tris : List ℕ) → x.c
 listed-touched x e count old tris place same many is =
     let own : take count tris ≡ touched (faces_of x) e = ap (take count) is ∙ over-take (touched (faces_of x) e) old count (sym many) in
     let room : count ≤ length tris = omega (arith, touched-most x e) in
-    record { own = own; room = room; many = sym (length-take-le count tris room); below = rw own (touched-below x e) }
+    let all : Below (take count tris) x.counts.triangles = rw own (touched-below x e) in
+    record { own = own; room = room; below = λ n h. below-take n count x.counts.triangles tris room h all }
 
 -- what a retouch leaves where it is refused
 pub retouched-refused : {o : Outcome} {F : FaceLists} {ls : List Float} {e : ℕ} {x : Float} {ds : List Float} {ks : List ℕ} {r : Outcome} {q : Refusal} → o ≡ Err q → r ≡ Err q → Retouched o F ls e x ds ks r ls ds ks

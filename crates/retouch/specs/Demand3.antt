@@ -27,7 +27,7 @@ entry_in a = record { deficit = a.0; kind = kind_in a.1 }
 abbrev pub both_at : List Float → List ℕ → ℕ → Float × ℕ
 both_at ds ks t = (get_or ds t nan, get_or ks t 0)
 
--- two entries agree: the deficits are equal, as floats are (one NaN is another's equal, +0 and -0 differ), and the kinds are the same; where no kind stands nothing agrees
+-- Agree: the deficits are equal, as floats are (one NaN is another's equal, +0 and -0 differ), and the kinds are the same; where no kind stands nothing agrees
 pub record Agree (a b : Entry) : Type 0 where
   pub deficits : a.deficit ≡ b.deficit
   pub kinds : (k : HingeType) × (a.kind ≡ Some k) × (b.kind ≡ Some k)
@@ -36,15 +36,15 @@ pub record Agree (a b : Entry) : Type 0 where
 abbrev pub worked_out : FaceLists → List Float → ℕ → Entry
 worked_out F ls t = entry_of (hinge_in (hinges F ls) t)
 
--- a table matches a length list at a triangle: it agrees there with the one worked out anew
+-- Matches: at a triangle, a table agrees with the one worked out anew from a length list
 abbrev pub Matches : FaceLists → List Float → (ℕ → Entry) → ℕ → Type 0
 Matches F ls table t = Agree (table t) (worked_out F ls t)
 
--- two tables are equal: they agree at every triangle
+-- Equal: two tables agree at every triangle
 abbrev pub Equal : FaceLists → (ℕ → Entry) → (ℕ → Entry) → Type 0
 Equal F a b = (t : ℕ) → t < length F.triangles → Agree (a t) (b t)
 
--- a triangle lies in a pentachoron with an edge: its three vertices are among the pentachoron's five, and so are both ends of the edge
+-- Lies in: a triangle lies in a pentachoron with an edge. Its three vertices are among the pentachoron's five, and so are both ends of the edge
 abbrev pub Shares : FaceLists → ℕ → ℕ → Type 0
 Shares F e t = (p : List ℕ) × Memᴰ p F.pents × Within (get_or F.triangles t []) p × Within (get_or F.edges e []) p
 

@@ -1,5 +1,5 @@
 -- The retouch: one squared length is changed and the table of hinges brought up to date. When it is refused, what it answers, and what it leaves in the lent lists. Definitions only.
-use Rattle.refusals.specs.Refusals.{Done, Outcome}
+use Rattle.refusals.specs.Refusals.{Outcome}
 use Rattle.std.specs.Prelude.{ℕ, cond, List, [], ◌≡◌, ltb, Float, length, get_or, set, Err, Ok}
 use Rattle.refusals.specs.declared.Refusal.TheVariants.{EdgeTooLarge}
 use Rattle.lists.specs.Lists.{gather}
@@ -38,7 +38,7 @@ abbrev pub after : {A : Type 0} → Outcome → List A → List A → List A
 after (Ok u) new old = new
 after (Err r) new old = old
 
--- A retouch: the new length stands at its edge, and each triangle of each pentachoron that contains the edge is worked out anew.
+-- Retouch: the new length stands at its edge, and each triangle of each pentachoron that contains the edge is worked out anew.
 -- The answer r of checks that say o, and the lists of lengths, deficits and kinds after the call
 pub record Retouched (o : Outcome) (F : FaceLists) (ls : List Float) (e : ℕ) (x : Float) (ds : List Float) (ks : List ℕ) (r : Outcome) (ls' ds' : List Float) (ks' : List ℕ) : Type 0 where
   pub answered : r ≡ o

@@ -1,5 +1,6 @@
 // The retouch: one squared length of a complex is changed, and the table of its hinges brought up to date. `retouch_built` takes a
 // built complex with its incidence lists and does not check it again. NaN and infinities are lawful lengths.
+// Two lists, and kinds as bytes: they are lent over the C interface. The crate `hinge_table` has a list of records.
 #![tactic(auto)]
 
 mod records;
@@ -11,8 +12,8 @@ ghost use Rattle.hinges.specs.Hinges.{faces_of};
 ghost use Rattle.calls.specs.Calls.{built_check_of, lengths_check_of, room_check_of, short_table};
 ghost use Rattle.retouch.specs.Retouch.{edge_check_of, Retouched};
 
-use calls::{BuiltComplex, check_lengths, check_noting, check_table};
-use complex::{Complex, Incidence};
+use calls::{BuiltComplex, check_complex, check_lengths, check_table};
+use complex::Complex;
 use incidence::EdgeNumber;
 use records::write_records;
 use refusals::Refusal;
@@ -58,14 +59,6 @@ pub fn retouch(
 {
     let mut pent_edges = [0u32; 81920];
     let mut pent_tris = [0u32; 81920];
-    check_noting(complex, &mut pent_edges, &mut pent_tris)?;
-    let incidence = Incidence {
-        pent_edges: &pent_edges,
-        pent_tris: &pent_tris,
-    };
-    let built = BuiltComplex {
-        complex: *complex,
-        incidence,
-    };
+    let built = check_complex(*complex, &mut pent_edges, &mut pent_tris)?;
     retouch_built(&built, sq_lengths, edge, sq_length, deficits, kinds)
 }

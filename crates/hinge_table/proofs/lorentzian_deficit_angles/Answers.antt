@@ -4,8 +4,8 @@ use Rattle.calls.proofs.BuiltCalls.{returned, built-refused, built-decided}
 use Rattle.hinge_table.proofs.TableSteps.{worked-refused, worked-same}
 use Rattle.hinge_table.proofs.lorentzian_deficit_angles.Goals as goal
 
-pub returns-in_err-check_noting : goal.returns-in_err-check_noting
-returns-in_err-check_noting c = worked-refused (built-refused _ _ _ (sym c.in_err-check_noting.ensures.outcome)) (returned _ _ c.from_residual.ensures.1)
+pub returns-in_err-built : goal.returns-in_err-built
+returns-in_err-built c = worked-refused (built-refused _ _ _ (sym c.in_err-built.ensures.outcome)) (returned _ _ c.from_residual.ensures.1)
 
 pub returns : goal.returns
-returns c = worked-same (sym (built-decided _ _ _ (sym c.in_ok-check_noting.ensures.outcome))) c.deficit_angles_of.ensures
+returns c = worked-same (sym (built-decided _ _ _ (sym c.in_ok-built.ensures.outcome))) (rw (← c.in_ok-built.ensures.own) c.deficit_angles_of.ensures)

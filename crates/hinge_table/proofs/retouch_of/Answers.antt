@@ -1,15 +1,14 @@
 -- `hinge_table::retouch_of` meets its contract. Assumes nothing.
 use Prim.Native.Nat.{ℕ}
-use mathlib.Core.Path.{refl, sym, ap, ◌∙◌}
+use mathlib.Core.Path.{refl, sym, ◌∙◌}
 use native.Mathlib.Omega.{arith}
 use lib.ListN.{length, length-set}
-use Rattle.lists.specs.Writes.{writes}
+use Rattle.std.proofs.lemmas.List.{length-take-le}
 use Rattle.marks.proofs.Marking.{scratch-room}
 use Rattle.hinges.specs.Hinges.{faces_of}
 use Rattle.calls.proofs.BuiltCalls.{returned, lengths-refused}
-use Rattle.retouch.specs.Retouch.{anew}
 use Rattle.retouch.proofs.TouchedSteps.{edge-second, others-third, Passed, retouch-passed, Listed, listed-touched}
-use Rattle.hinge_table.proofs.TableSteps.{records-room, retouched-refused}
+use Rattle.hinge_table.proofs.TableSteps.{records-room, retouched-refused, retouched-same, table-retouched}
 use Rattle.hinge_table.proofs.retouch_of.Goals as goal
 use Rattle.hinge_table.proofs.retouch_of.Goals.{In_ok-check_edge, After-list_touched-count}
 
@@ -44,16 +43,16 @@ pub bounds-sq_lengths-edge : goal.bounds-sq_lengths-edge
 bounds-sq_lengths-edge c = let p = passed (goal.at.bounds-sq_lengths-edge c).In_ok-check_edge in omega (arith, p.counted, p.inside)
 
 pub slice_bounds-tris-end : goal.slice_bounds-tris-end
-slice_bounds-tris-end c = let at = goal.at.slice_bounds-tris-end c in (listed at.After-list_touched-count (passed at.In_ok-check_edge)).room
+slice_bounds-tris-end c = let at = goal.at.slice_bounds-tris-end c in omega (arith, (listed at.After-list_touched-count (passed at.In_ok-check_edge)).room)
 
 pub slice_bounds-write_records-end : goal.slice_bounds-write_records-end
-slice_bounds-write_records-end c = let at = goal.at.slice_bounds-write_records-end c in (listed at.After-list_touched-count (passed at.In_ok-check_edge)).many
+slice_bounds-write_records-end c = let at = goal.at.slice_bounds-write_records-end c in sym (length-take-le _ _ (omega (arith, (listed at.After-list_touched-count (passed at.In_ok-check_edge)).room)))
 
 pub write_records-requires : goal.write_records-requires
 write_records-requires c =
     let at = goal.at.write_records-requires c in
     let p = passed at.In_ok-check_edge in
-    (length-set c.args.sq_lengths.now _ _ ∙ p.counted, (listed at.After-list_touched-count p).below, records-room c.args.built.now.complex.counts (length c.args.table.now) (sym c.in_ok-check_room.ensures))
+    (length-set c.args.sq_lengths.now _ _ ∙ p.counted, (listed at.After-list_touched-count p).below _ (omega arith), records-room c.args.built.now.complex.counts (length c.args.table.now) (sym c.in_ok-check_room.ensures))
 
 pub returns : goal.returns
 returns c =
@@ -61,8 +60,6 @@ returns c =
     let at = goal.at.returns c in
     let F = faces_of a.built.now.complex in
     let own = (listed at.After-list_touched-count (passed at.In_ok-check_edge)).own in
-    record {
-      answered = c.in_ok-check_room.ensures ∙ sym (others-third _ _ _ _ (sym c.in_ok-check_lengths.ensures) (sym c.in_ok-check_edge.ensures));
-      lengths = refl;
-      records = c.write_records.ensures ∙ ap (λ ts. writes (anew F a.sq_lengths.now a.edge.0 a.sq_length) ts a.table.now) own;
-    }
+    let done = sym c.in_ok-check_room.ensures in
+    retouched-same (sym (others-third _ _ _ _ (sym c.in_ok-check_lengths.ensures) (sym c.in_ok-check_edge.ensures)))
+    (table-retouched F a.sq_lengths.now a.edge.0 a.sq_length a.table.now _ _ _ _ (sym done) (rw done refl) (own ∙ (rw done refl)) c.write_records.ensures)

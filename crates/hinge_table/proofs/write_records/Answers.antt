@@ -1,7 +1,7 @@
 -- `hinge_table::write_records` meets its contract. Assumes nothing.
 use mathlib.Core.Path.{refl, sym, ap, ◌∙◌}
 use native.Mathlib.Omega.{arith}
-use lib.ListN.{length, get_or, set, take, length-set}
+use lib.ListN.{length, get_or, set, length-set}
 use lib.Seq.{take_all}
 use Rattle.lists.specs.Writes.{writes}
 use Rattle.lists.proofs.Writes.{writes-next}
@@ -14,7 +14,7 @@ unfolding writes
 loop-tri-init c = (refl, refl)
 
 pub hinge_at-requires : goal.hinge_at-requires
-hinge_at-requires c = (measured c.args.built.now (length c.args.sq_lengths.now) c.requires.0, c.requires.1 c.loop-tri.tri-index c.loop-tri-test.true)
+hinge_at-requires c = (measured c.args.built.now (length c.args.sq_lengths.now) c.requires.0, omega (arith, c.requires.1 c.loop-tri.tri-index c.loop-tri-test.true))
 
 pub bounds-table-tri : goal.bounds-table-tri
 bounds-table-tri c = omega (arith, c.requires.1 c.loop-tri.tri-index c.loop-tri-test.true, c.requires.2, c.loop-tri.invariant.0)

@@ -3,6 +3,7 @@ use Prim.Native.Nat.{ℕ}
 use mathlib.Core.Path.{refl, sym, ap, ◌∙◌}
 use native.Mathlib.Omega.{arith}
 use lib.ListN.{length, length-set}
+use Rattle.std.proofs.lemmas.List.{length-take-le}
 use Rattle.lists.specs.Writes.{writes}
 use Rattle.lorentzian.specs.Dihedral.{kind_number}
 use Rattle.marks.proofs.Marking.{scratch-room}
@@ -44,17 +45,17 @@ pub bounds-sq_lengths-edge : goal.bounds-sq_lengths-edge
 bounds-sq_lengths-edge c = let p = passed (goal.at.bounds-sq_lengths-edge c).In_ok-check_edge in omega (arith, p.counted, p.inside)
 
 pub slice_bounds-tris-end : goal.slice_bounds-tris-end
-slice_bounds-tris-end c = let at = goal.at.slice_bounds-tris-end c in (listed at.After-list_touched-count (passed at.In_ok-check_edge)).room
+slice_bounds-tris-end c = let at = goal.at.slice_bounds-tris-end c in omega (arith, (listed at.After-list_touched-count (passed at.In_ok-check_edge)).room)
 
 pub slice_bounds-write_records-end : goal.slice_bounds-write_records-end
-slice_bounds-write_records-end c = let at = goal.at.slice_bounds-write_records-end c in (listed at.After-list_touched-count (passed at.In_ok-check_edge)).many
+slice_bounds-write_records-end c = let at = goal.at.slice_bounds-write_records-end c in sym (length-take-le _ _ (omega (arith, (listed at.After-list_touched-count (passed at.In_ok-check_edge)).room)))
 
 pub write_records-requires : goal.write_records-requires
 write_records-requires c =
     let at = goal.at.write_records-requires c in
     let p = passed at.In_ok-check_edge in
     let t = table-room c.args.built.now.complex.counts (length c.args.deficits.now) (length c.args.kinds.now) (sym c.in_ok-check_table.ensures) in
-    (length-set c.args.sq_lengths.now _ _ ∙ p.counted, (listed at.After-list_touched-count p).below, t.0, t.1)
+    (length-set c.args.sq_lengths.now _ _ ∙ p.counted, (listed at.After-list_touched-count p).below _ (omega arith), t.0, t.1)
 
 pub returns : goal.returns
 returns c =

@@ -4,8 +4,8 @@ use Rattle.calls.proofs.BuiltCalls.{returned, built-refused, built-decided}
 use Rattle.local_regge.proofs.LocalSteps.{table-refused, table_same}
 use Rattle.local_regge.proofs.local_deficits.local_deficit_angles.Goals as goal
 
-pub returns-in_err-check_noting : goal.returns-in_err-check_noting
-returns-in_err-check_noting c = table-refused (built-refused _ _ _ (sym c.in_err-check_noting.ensures.outcome)) (returned _ _ c.from_residual.ensures.1)
+pub returns-in_err-built : goal.returns-in_err-built
+returns-in_err-built c = table-refused (built-refused _ _ _ (sym c.in_err-built.ensures.outcome)) (returned _ _ c.from_residual.ensures.1)
 
 pub returns : goal.returns
-returns c = table_same (sym (built-decided _ _ _ (sym c.in_ok-check_noting.ensures.outcome))) c.local_deficit_angles_built.ensures
+returns c = table_same (sym (built-decided _ _ _ (sym c.in_ok-built.ensures.outcome))) (rw (← c.in_ok-built.ensures.own) c.local_deficit_angles_built.ensures)

@@ -1,12 +1,12 @@
 -- `local_regge::local_deficits::local_deficit_angles_built` meets its contract. Assumes nothing.
 use Rattle.std.proofs.Common.{get_or-take}
 use Prim.Native.Nat.{◌≤◌, ◌<◌}
-use mathlib.Core.Bool.{false, ◌||◌}
+use mathlib.Core.Bool.{◌||◌}
 use mathlib.Core.List.{map}
 use mathlib.Core.Path.{◌≡◌, sym, ap, ◌∙◌, subst}
 use native.Mathlib.Omega.{arith}
 use lib.Dec.{ltb}
-use lib.ListN.{length, get_or, take}
+use lib.ListN.{length, take}
 use lib.Seq.{length-take-le}
 use borrow.Author.Tests.{ltb-false}
 use Rattle.lists.specs.Rows.{over}

@@ -3,8 +3,8 @@ use mathlib.Core.Path.{sym}
 use Rattle.calls.proofs.BuiltCalls.{returned, built-refused, built-decided, filled-refused, filled-same}
 use Rattle.local_regge.proofs.local_gradient.local_lorentzian_regge_action_grad.Goals as goal
 
-pub returns-in_err-check_noting : goal.returns-in_err-check_noting
-returns-in_err-check_noting c = filled-refused (built-refused _ _ _ (sym c.in_err-check_noting.ensures.outcome)) (returned _ _ c.from_residual.ensures.1)
+pub returns-in_err-built : goal.returns-in_err-built
+returns-in_err-built c = filled-refused (built-refused _ _ _ (sym c.in_err-built.ensures.outcome)) (returned _ _ c.from_residual.ensures.1)
 
 pub returns : goal.returns
-returns c = filled-same (sym (built-decided _ _ _ (sym c.in_ok-check_noting.ensures.outcome))) c.local_lorentzian_regge_action_grad_built.ensures
+returns c = filled-same (sym (built-decided _ _ _ (sym c.in_ok-built.ensures.outcome))) (rw (← c.in_ok-built.ensures.own) c.local_lorentzian_regge_action_grad_built.ensures)

@@ -2,6 +2,7 @@
 use Rattle.refusals.specs.Refusals.{Done, answer_by}
 use Rattle.std.specs.Prelude.{Ok}
 use mathlib.Core.Path.{sym, ap, ◌∙◌}
+use native.Mathlib.Omega.{arith}
 use lib.ListN.{length}
 use Rattle.hinges.specs.Hinges.{hinges, hinge_in, faces_of}
 use Rattle.calls.proofs.BuiltCalls.{measured, returned, lengths-passed, lengths-refused, lengths-decided, triangle-passed}
@@ -22,7 +23,7 @@ returns-in_err-check_triangle c =
 pub hinge_at-requires : goal.hinge_at-requires
 hinge_at-requires c =
     let a = c.args in
-    (measured a.built.now (length a.sq_lengths.now) (lengths-passed _ _ Done (sym c.in_ok-check_lengths.ensures)).0, triangle-passed a.built.now.complex.counts a.tri.0 (sym c.in_ok-check_triangle.ensures))
+    (measured a.built.now (length a.sq_lengths.now) (lengths-passed _ _ Done (sym c.in_ok-check_lengths.ensures)).0, omega (arith, triangle-passed a.built.now.complex.counts a.tri.0 (sym c.in_ok-check_triangle.ensures)))
 
 pub returns : goal.returns
 returns c =

@@ -1,7 +1,7 @@
 -- `retouch::records::write_records` meets its contract. Assumes nothing.
-use mathlib.Core.Path.{◌≡◌, refl, sym, ap, ◌∙◌}
+use mathlib.Core.Path.{refl, sym, ap, ◌∙◌}
 use native.Mathlib.Omega.{arith}
-use lib.ListN.{length, get_or, set, take, length-set}
+use lib.ListN.{length, get_or, set, length-set}
 use lib.Seq.{take_all}
 use Rattle.lists.specs.Writes.{writes}
 use Rattle.lists.proofs.Writes.{writes-next}
@@ -16,7 +16,7 @@ unfolding writes
 loop-tri-init c = (refl, refl, refl, refl)
 
 pub hinge_at-hinge-requires : goal.hinge_at-hinge-requires
-hinge_at-hinge-requires c = (measured c.args.built.now (length c.args.sq_lengths.now) c.requires.0, c.requires.1 c.loop-tri.tri-index c.loop-tri-test.true)
+hinge_at-hinge-requires c = (measured c.args.built.now (length c.args.sq_lengths.now) c.requires.0, omega (arith, c.requires.1 c.loop-tri.tri-index c.loop-tri-test.true))
 
 pub bounds-deficits-tri : goal.bounds-deficits-tri
 bounds-deficits-tri c = omega (arith, c.requires.1 c.loop-tri.tri-index c.loop-tri-test.true, c.requires.2, c.loop-tri.invariant.0)

@@ -22,16 +22,16 @@ pub pent_tri_indices-tris-requires : goal.pent_tri_indices-tris-requires
 pent_tri_indices-tris-requires c =
     let x = c.args.complex.now in
     let h = c.pents_of_edge-holders in
-    (c.requires.1, holding-below (pents_of x) (get_or (edges_of x) c.args.edge.0 []) h.result.now h.ensures x.counts.pentachorons (omega (arith, length-rows 5 x.counts.pentachorons x.pents.now)) c.loop-holder.holder-index c.loop-holder-test.true)
+    (c.requires.1, holding-below (pents_of x) (get_or (edges_of x) c.args.edge.0 []) h.result.now h.ensures x.counts.pentachorons (omega (arith, length-rows 5 x.counts.pentachorons x.pents.now)) _ (omega (arith, c.loop-holder-test.true)))
 
 pub mark_all-requires : goal.mark_all-requires
 mark_all-requires c =
     let x = c.args.complex.now in
     let l = c.loop-holder in
     let h = c.pents_of_edge-holders in
-    triangles-below x.counts x.pents.now x.triangles.now c.requires.2 (get_or h.result.now l.holder-index 0)
-    (holding-below (pents_of x) (get_or (edges_of x) c.args.edge.0 []) h.result.now h.ensures x.counts.pentachorons (omega (arith, length-rows 5 x.counts.pentachorons x.pents.now)) l.holder-index c.loop-holder-test.true)
-    c.pent_tri_indices-tris.result.now c.pent_tri_indices-tris.ensures (length l.marks) (omega (arith, c.requires.4, l.invariant.1))
+    triangles-below x.counts x.pents.now x.triangles.now c.requires.2 c.pent_tri_indices-tris.result.now _ c.pent_tri_indices-tris.ensures
+    (holding-below (pents_of x) (get_or (edges_of x) c.args.edge.0 []) h.result.now h.ensures x.counts.pentachorons (omega (arith, length-rows 5 x.counts.pentachorons x.pents.now)) _ (omega (arith, c.loop-holder-test.true)))
+    (length l.marks) (omega (arith, c.requires.4, l.invariant.1))
 
 pub loop-holder-preserved : goal.loop-holder-preserved
 loop-holder-preserved c =
