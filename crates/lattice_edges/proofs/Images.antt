@@ -1,7 +1,7 @@
 -- The shortest step along a periodic axis: its double, and when it is 0. Assumes nothing.
 use Prim.Native.Nat.{ℕ, suc, ◌+◌, ◌-◌, ◌/◌, ◌%◌, ◌^◌, ◌≤◌, ◌<◌}
 use mathlib.Core.Path.{◌≡◌, refl, sym, ap, ◌∙◌}
-use mathlib.Core.Bool.{Bool, true, cond}
+use mathlib.Core.Bool.{Bool, cond}
 use native.Mathlib.Omega.{arith}
 use lib.Dec.{T, eqb, le→leb}
 use lib.IntN.{pos, negsuc, sub_ℕ}
@@ -9,9 +9,8 @@ use lib.Ieee.{binary64, neg, of_int, in_float}
 use borrow.Author.Tests.{lt-ltb, le-ltb}
 use Rattle.floats.proofs.Integers.{neg-of_int}
 use Rattle.lists.proofs.Tests.{Says, pass, fail, eqb-says, ltb-says, says-by, said, passes}
-use Rattle.foliation.specs.declared.Lattice.{Lattice}
-use Rattle.foliation.specs.Lattice.{is_lawful}
-use Rattle.foliation.proofs.Sizes.{lawful, remainder-below}
+use Rattle.foliation.specs.declared.coords.LawfulLattice.{LawfulLattice}
+use Rattle.foliation.proofs.Sizes.{sizes, remainder-below}
 use Rattle.lattice_edges.specs.Edges.{min_image, is_zero}
 
 -- ---- differences as doubles
@@ -54,5 +53,8 @@ zero-says a b n ha hb = go (ltb-says (a + n / 2) b) (ltb-says (b + n / 2) a)
     go (fail f) (fail g) = plain (ltb-says b a)
 
 -- the type's test of two vertices
-pub time-says : (l : Lattice) → is_lawful l ≡ true → (a b : ℕ) → Says (a % l.n_t ≡ b % l.n_t) (is_zero (min_image (a % l.n_t) (b % l.n_t) l.n_t))
-time-says l h a b = let s = (lawful l h).t_least in zero-says (a % l.n_t) (b % l.n_t) l.n_t (remainder-below a l.n_t s) (remainder-below b l.n_t s)
+pub time-says : (s : LawfulLattice) (a b : ℕ) → Says (a % s.lattice.n_t ≡ b % s.lattice.n_t) (is_zero (min_image (a % s.lattice.n_t) (b % s.lattice.n_t) s.lattice.n_t))
+time-says s a b =
+    let n = s.lattice.n_t in
+    let least = (sizes s).t_least in
+    zero-says (a % n) (b % n) n (remainder-below a n least) (remainder-below b n least)

@@ -18,8 +18,8 @@ use refusals::Refusal;
 pub fn edge_types(lattice: Lattice, complex: &Complex<'_>, types: &mut [u8]) -> Result<(), Refusal>
     ensures { Filled lattice complex.now.counts (lists_of complex.now) (types_of lattice (edges_of complex.now)) types.old result types.new }
 {
-    checks::check(lattice, complex, types.len())?;
-    edges::write_types(lattice, &complex.edges[..2 * complex.counts.edges], types);
+    let lawful = checks::check(lattice, complex, types.len())?;
+    edges::write_types(lawful, &complex.edges[..2 * complex.counts.edges], types);
     Ok(())
 }
 
@@ -36,9 +36,9 @@ pub fn flat_minkowski_sq_lengths(
 ) -> Result<(), Refusal>
     ensures { Filled lattice complex.now.counts (lists_of complex.now) (lengths_of lattice (edges_of complex.now) spacing dt) sq_lengths.old result sq_lengths.new }
 {
-    checks::check(lattice, complex, sq_lengths.len())?;
+    let lawful = checks::check(lattice, complex, sq_lengths.len())?;
     edges::write_sq_lengths(
-        lattice,
+        lawful,
         &complex.edges[..2 * complex.counts.edges],
         spacing,
         dt,

@@ -5,4 +5,4 @@ use Rattle.lattice_edges.proofs.edges.write_sq_lengths.Goals as goal
 
 pub returns : goal.returns
 unfolding lengths_of
-returns c = c.write_entries.ensures (λ a b. sq_length_of c.args.lattice a b c.args.spacing c.args.dt) (λ a b v p. search (rules, p))
+returns c = c.write_entries.ensures (λ a b. sq_length_of c.args.lawful.lattice a b c.args.spacing c.args.dt) (λ a b v p. search (rules, p))

@@ -5,4 +5,4 @@ use Rattle.lattice_edges.proofs.edges.write_types.Goals as goal
 
 pub returns : goal.returns
 unfolding types_of
-returns c = c.write_entries.ensures (λ a b. type_byte (edge_type_of c.args.lattice a b)) (λ a b v p. search (rules, p))
+returns c = c.write_entries.ensures (λ a b. type_byte (edge_type_of c.args.lawful.lattice a b)) (λ a b v p. search (rules, p))
