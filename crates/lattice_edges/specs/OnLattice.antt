@@ -10,6 +10,7 @@ use Rattle.complex.specs.Check.{is_built, written_after}
 use Rattle.foliation.specs.declared.Lattice.{Lattice}
 use Rattle.foliation.specs.declared.coords.LawfulLattice.{LawfulLattice}
 use Rattle.foliation.specs.Lattice.{vertex_count, is_lawful, lattice_pents}
+use Rattle.lattice_edges.specs.Edges.{Gives, entries_of}
 
 -- vertex count and pentachorons are those of the lattice, in their order
 unfoldable pub has_lattice_pents : Lattice → Counts → List ℕ → Bool
@@ -30,3 +31,7 @@ Checked l c ls room (Err r) = lattice_check_of l c ls room ≡ Err r
 pub record Filled {A : Type 0} (l : Lattice) (c : Counts) (ls : Lists) (values old : List A) (r : Outcome) (new : List A) : Type 0 where
   pub answered : r ≡ lattice_check_of l c ls (length old)
   pub left : new ≡ written_after r values old
+
+-- such a call with the entries of some edges as values, whatever h the closure computes
+abbrev pub FillsEntries : {A : Type 0} → (LawfulLattice → ℕ → ℕ → A → Type 0) → Lattice → Counts → Lists → List (List ℕ) → List A → Outcome → List A → Type 0
+FillsEntries {A} post l c ls es old r new = (h : Lattice → ℕ → ℕ → A) → Gives post h → Filled l c ls (entries_of h l es) old r new

@@ -3,8 +3,7 @@ ghost use Rattle.std.specs.Prelude.{◌≡◌, ◌/◌, ◌^◌, ◌≤◌, ◌<
 ghost use Rattle.std.proofs.Math.IntN.{sub_ℕ};
 ghost use Rattle.std.specs.Float.{binary64};
 ghost use Rattle.std.specs.Float.Ieee.{of_int};
-ghost use Rattle.lists.specs.Rows.{rows, over};
-ghost use Rattle.lattice_edges.specs.Edges.{WritesEntries, type_byte, edge_type_of, min_image, sq_length_of, types_of, lengths_of};
+ghost use Rattle.lattice_edges.specs.Edges.{WritesEntries, type_byte, edge_type_of, min_image, sq_length_of};
 
 use foliation::LawfulLattice;
 
@@ -29,7 +28,7 @@ impl EdgeType {
 }
 
 // The type of the edge from vertex a to vertex b.
-fn edge_type(lawful: LawfulLattice, a: u32, b: u32) -> EdgeType
+pub fn edge_type(lawful: LawfulLattice, a: u32, b: u32) -> EdgeType
     ensures { result ≡ edge_type_of lawful.lattice a b }
 {
     let n_t = lawful.lattice.n_t;
@@ -71,7 +70,7 @@ fn min_image(a: usize, b: usize, n: usize) -> f64
 }
 
 // The squared length of the edge from vertex a to vertex b.
-fn sq_length(lawful: LawfulLattice, a: u32, b: u32, spacing: f64, dt: f64) -> f64
+pub fn sq_length(lawful: LawfulLattice, a: u32, b: u32, spacing: f64, dt: f64) -> f64
     ensures { result ≡ sq_length_of lawful.lattice a b spacing dt }
 {
     let n_t = lawful.lattice.n_t;
@@ -86,39 +85,18 @@ fn sq_length(lawful: LawfulLattice, a: u32, b: u32, spacing: f64, dt: f64) -> f6
 }
 
 // What is made of each edge's two vertices goes to the front of a list.
-fn write_entries<T: Copy, F: Fn(u32, u32) -> T>(edges: &[u32], list: &mut [T], entry: F)
+pub fn write_entries<T: Copy, F: Fn(LawfulLattice, u32, u32) -> T>(
+    lawful: LawfulLattice,
+    edges: &[u32],
+    list: &mut [T],
+    entry: F,
+)
     requires room { length edges.now / 2 ≤ length list.old }
     requires callable { F.IsAlwaysCallable entry }
-    ensures { WritesEntries (F.post entry) edges.now list.old list.new }
+    ensures { WritesEntries (F.post entry) lawful edges.now list.old list.new }
 {
     // By index: after a loop over `iter_mut` and `zip` a proof knows the length of the list, and no entry.
     for k in 0..edges.len() / 2 {
-        list[k] = entry(edges[2 * k], edges[2 * k + 1]);
+        list[k] = entry(lawful, edges[2 * k], edges[2 * k + 1]);
     }
-}
-
-// The types of some edges.
-pub fn write_types(lawful: LawfulLattice, edges: &[u32], types: &mut [u8])
-    requires { length edges.now / 2 ≤ length types.old }
-    ensures { types.new ≡ over (types_of lawful.lattice (rows 2 (length edges.now / 2) edges.now)) types.old }
-{
-    write_entries(edges, types, |a, b| edge_type(lawful, a, b).byte());
-}
-
-// The squared lengths of some edges.
-pub fn write_sq_lengths(
-    lawful: LawfulLattice,
-    edges: &[u32],
-    spacing: f64,
-    dt: f64,
-    sq_lengths: &mut [f64],
-)
-    requires { length edges.now / 2 ≤ length sq_lengths.old }
-    ensures { sq_lengths.new ≡ over (lengths_of lawful.lattice (rows 2 (length edges.now / 2) edges.now) spacing dt) sq_lengths.old }
-{
-    write_entries(
-        edges,
-        sq_lengths,
-        |a, b| sq_length(lawful, a, b, spacing, dt),
-    );
 }

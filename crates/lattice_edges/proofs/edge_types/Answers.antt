@@ -1,31 +1,8 @@
 -- `lattice_edges::edge_types` meets its contract. Assumes nothing.
-use Rattle.std.specs.Prelude.{Err}
-use mathlib.Core.Path.{refl, sym, ap, ◌∙◌}
-use native.Mathlib.Omega.{arith}
-use lib.Seq.{length-take-le}
-use Rattle.std.proofs.lemmas.Result.{err_from_is_err_and}
-use Rattle.lattice_edges.proofs.Passed.{let_pass, refused, front-rows}
+use Rattle.std.proofs.Common.{rules}
+use Rattle.lattice_edges.specs.Edges.{type_byte, edge_type_of, types_of}
 use Rattle.lattice_edges.proofs.edge_types.Goals as goal
 
-pub returns-in_err-lawful : goal.returns-in_err-lawful
-returns-in_err-lawful c =
-    let p = err_from_is_err_and c.from_residual.result c.from_residual.ensures.1 in
-    record { answered = p.1 ∙ ap Err p.2 ∙ sym (refused _ _ _ _ c.check.ensures c.in_err-lawful.was); left = rw p.1 refl }
-
-pub overflow_mul-complex : goal.overflow_mul-complex
-overflow_mul-complex c = let p = let_pass _ _ _ _ c.check.ensures c.in_ok-lawful.was in omega (arith, p.passed.ends)
-
-pub slice_bounds-write_types-end : goal.slice_bounds-write_types-end
-slice_bounds-write_types-end c = let p = let_pass _ _ _ _ c.check.ensures c.in_ok-lawful.was in sym (length-take-le _ _ p.passed.ends)
-
-pub write_types-requires : goal.write_types-requires
-write_types-requires c =
-    let p = let_pass _ _ _ _ c.check.ensures c.in_ok-lawful.was in
-    let long = length-take-le _ _ p.passed.ends in
-    omega (arith, long, p.passed.places)
-
 pub returns : goal.returns
-returns c =
-    let p = let_pass _ _ _ _ c.check.ensures c.in_ok-lawful.was in
-    let x = c.args.complex.now in
-    record { answered = sym p.done; left = rw (front-rows x.counts.edges x.edges.now p.passed.ends, p.lattice) at c.write_types.ensures }
+unfolding types_of
+returns c = c.fill.ensures (λ l a b. type_byte (edge_type_of l a b)) (λ s a b v p. search (rules, p))

@@ -1,31 +1,8 @@
 -- `lattice_edges::flat_minkowski_sq_lengths` meets its contract. Assumes nothing.
-use Rattle.std.specs.Prelude.{Err}
-use mathlib.Core.Path.{refl, sym, ap, ◌∙◌}
-use native.Mathlib.Omega.{arith}
-use lib.Seq.{length-take-le}
-use Rattle.std.proofs.lemmas.Result.{err_from_is_err_and}
-use Rattle.lattice_edges.proofs.Passed.{let_pass, refused, front-rows}
+use Rattle.std.proofs.Common.{rules}
+use Rattle.lattice_edges.specs.Edges.{sq_length_of, lengths_of}
 use Rattle.lattice_edges.proofs.flat_minkowski_sq_lengths.Goals as goal
 
-pub returns-in_err-lawful : goal.returns-in_err-lawful
-returns-in_err-lawful c =
-    let p = err_from_is_err_and c.from_residual.result c.from_residual.ensures.1 in
-    record { answered = p.1 ∙ ap Err p.2 ∙ sym (refused _ _ _ _ c.check.ensures c.in_err-lawful.was); left = rw p.1 refl }
-
-pub overflow_mul-complex : goal.overflow_mul-complex
-overflow_mul-complex c = let p = let_pass _ _ _ _ c.check.ensures c.in_ok-lawful.was in omega (arith, p.passed.ends)
-
-pub slice_bounds-write_sq_lengths-end : goal.slice_bounds-write_sq_lengths-end
-slice_bounds-write_sq_lengths-end c = let p = let_pass _ _ _ _ c.check.ensures c.in_ok-lawful.was in sym (length-take-le _ _ p.passed.ends)
-
-pub write_sq_lengths-requires : goal.write_sq_lengths-requires
-write_sq_lengths-requires c =
-    let p = let_pass _ _ _ _ c.check.ensures c.in_ok-lawful.was in
-    let long = length-take-le _ _ p.passed.ends in
-    omega (arith, long, p.passed.places)
-
 pub returns : goal.returns
-returns c =
-    let p = let_pass _ _ _ _ c.check.ensures c.in_ok-lawful.was in
-    let x = c.args.complex.now in
-    record { answered = sym p.done; left = rw (front-rows x.counts.edges x.edges.now p.passed.ends, p.lattice) at c.write_sq_lengths.ensures }
+unfolding lengths_of
+returns c = c.fill.ensures (λ l a b. sq_length_of l a b c.args.spacing c.args.dt) (λ s a b v p. search (rules, p))
