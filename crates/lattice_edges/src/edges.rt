@@ -43,15 +43,12 @@ pub fn edge_type(lawful: LawfulLattice, a: u32, b: u32) -> EdgeType
     EdgeType::Diagonal
 }
 
-// The double of b - a, in unsigned numbers: signed ones would need a bound for each cast, and be no plainer.
+// The double of b - a.
 fn difference(a: usize, b: usize) -> f64
     requires { (a < 2 ^ 40) × (b < 2 ^ 40) }
     ensures { result ≡ of_int binary64 (sub_ℕ b a) }
 {
-    if b < a {
-        return -((a - b) as f64);
-    }
-    (b - a) as f64
+    (b as i64 - a as i64) as f64
 }
 
 // The shortest step from a to b along an axis of n points, as a double.
