@@ -1,12 +1,17 @@
 -- What a lawful size says. Assumes nothing.
 use Prim.Native.Nat.{ℕ, ◌*◌, ◌%◌, ◌≤◌, ◌<◌}
-use mathlib.Core.Path.{◌≡◌}
-use mathlib.Core.Bool.{true}
+use mathlib.Core.Path.{◌≡◌, subst}
+use Rattle.std.specs.Prelude.{Err, Ok, Result}
+use Rattle.refusals.specs.declared.Refusal.{Refusal}
+use Rattle.refusals.specs.declared.Refusal.TheVariants.{LatticeSize}
+use mathlib.Core.Bool.{true, false}
 use native.Mathlib.Nat.{mod-lt, mul-le-mul}
 use native.Mathlib.Omega.{arith}
 use Rattle.lists.proofs.Tests.{Says, leb-says, and-says, both-says, said}
 use Rattle.foliation.specs.declared.Lattice.{Lattice}
+use Rattle.foliation.specs.declared.coords.LawfulLattice.{LawfulLattice}
 use Rattle.foliation.specs.Lattice.{vertex_count, is_lawful}
+use Rattle.foliation.specs.Listing.{Checked}
 
 -- n_t and n_s are in 2..8, and there are at most 341 cells
 pub record Lawful (l : Lattice) : Type 0 where
@@ -29,6 +34,20 @@ lawful-says l =
 -- what the test of a size says where it passes
 pub lawful : (l : Lattice) → is_lawful l ≡ true → Lawful l
 lawful l h = said (lawful-says l) h
+
+-- what a lattice of a lawful size has
+pub sizes : (s : LawfulLattice) → Lawful s.lattice
+sizes s = lawful s.lattice s.lawful
+
+-- ---- the check of a size
+
+-- where it passes
+pub checked : (l : Lattice) (r : Result LawfulLattice Refusal) (s : LawfulLattice) → Checked l r → r ≡ Ok s → s.lattice ≡ l
+checked l r s h e = subst (Checked l) e h
+
+-- where it refuses
+pub unlawful : (l : Lattice) (r : Result LawfulLattice Refusal) (x : Refusal) → Checked l r → r ≡ Err x → (is_lawful l ≡ false) × (x ≡ LatticeSize)
+unlawful l r x h e = subst (Checked l) e h
 
 -- ---- bounds
 

@@ -1,12 +1,12 @@
 // The pentachorons of a lattice: 24 of them start at each vertex, one for each order of the four axes.
-ghost use Rattle.std.specs.Prelude.{◌≡◌, true, [], ◌*◌, ◌≤◌, ◌<◌, length, get_or};
+ghost use Rattle.std.specs.Prelude.{◌≡◌, [], ◌*◌, ◌≤◌, ◌<◌, length, get_or};
 ghost use Rattle.lists.specs.Rows.{flat, over};
-ghost use Rattle.foliation.specs.Lattice.{vertex_count, is_lawful, orders, stepped, paths, lattice_pents};
+ghost use Rattle.foliation.specs.Lattice.{vertex_count, orders, stepped, paths, lattice_pents};
 ghost use Rattle.foliation.specs.Parts.{axis_number, Near, path_at};
 
 use self::Axis::{T, X, Y, Z};
-use crate::Lattice;
-use crate::coords::{Coords, n_total, vertex_coords_4d, vidx};
+use crate::LawfulLattice;
+use crate::coords::Coords;
 use complex::sorted;
 use lists::{FlatRows, copy_row, meet_rows};
 
@@ -72,49 +72,49 @@ fn step(at: Coords, axis: Axis) -> Coords
 }
 
 // Pentachoron k, repeated ones counted: the cell of the vertex k / 24, and the order k % 24.
-fn path_at(lattice: Lattice, k: usize) -> [u32; 5]
-    requires { (is_lawful lattice ≡ true) × (k < 8184) }
-    ensures { result ≡ path_at lattice k }
+fn path_at(lawful: LawfulLattice, k: usize) -> [u32; 5]
+    requires { k < 8184 }
+    ensures { result ≡ path_at lawful.lattice k }
 {
     let order = k % 24;
-    let a = vertex_coords_4d(lattice, k / 24);
+    let a = lawful.vertex_coords_4d(k / 24);
     let b = step(a, axis_at(order, 0));
     let c = step(b, axis_at(order, 1));
     let d = step(c, axis_at(order, 2));
     let e = step(d, axis_at(order, 3));
     sorted(
-        vidx(lattice, a),
-        vidx(lattice, b),
-        vidx(lattice, c),
-        vidx(lattice, d),
-        vidx(lattice, e),
+        lawful.vidx(a),
+        lawful.vidx(b),
+        lawful.vidx(c),
+        lawful.vidx(d),
+        lawful.vidx(e),
     )
 }
 
 // All of them, one after the other, repeated ones too.
-fn write_paths(lattice: Lattice, given: &mut [u32])
-    requires { (is_lawful lattice ≡ true) × (120 * vertex_count lattice ≤ length given.old) }
-    ensures { given.new ≡ over (flat (paths lattice)) given.old }
+fn write_paths(lawful: LawfulLattice, given: &mut [u32])
+    requires { 120 * vertex_count lawful.lattice ≤ length given.old }
+    ensures { given.new ≡ over (flat (paths lawful.lattice)) given.old }
 {
-    let count = 24 * n_total(lattice);
+    let count = 24 * lawful.n_total();
     for k in 0..count {
-        copy_row(given, 5 * k, &path_at(lattice, k));
+        copy_row(given, 5 * k, &path_at(lawful, k));
     }
 }
 
 // The lattice's pentachorons, the first of equals kept. Answers how many there are.
-pub fn list(lattice: Lattice, pents: &mut [u32]) -> usize
-    requires { (is_lawful lattice ≡ true) × (120 * vertex_count lattice ≤ length pents.old) }
-    ensures { (result ≡ length (lattice_pents lattice)) × (pents.new ≡ over (flat (lattice_pents lattice)) pents.old) }
+pub fn list(lawful: LawfulLattice, pents: &mut [u32]) -> usize
+    requires { 120 * vertex_count lawful.lattice ≤ length pents.old }
+    ensures { (result ≡ length (lattice_pents lawful.lattice)) × (pents.new ≡ over (flat (lattice_pents lawful.lattice)) pents.old) }
 {
     let mut given = [0u32; 40920];
     let mut head = [0u32; 32768];
     let mut next = [0u32; 8184];
     let mut numbers = [0u32; 8184];
-    write_paths(lattice, &mut given);
+    write_paths(lawful, &mut given);
     let paths = FlatRows {
         width: 5,
-        count: 24 * n_total(lattice),
+        count: 24 * lawful.n_total(),
         list: &given,
     };
     meet_rows(pents, &mut head, &mut next, 0, &paths, &mut numbers, 0)

@@ -8,7 +8,7 @@ mod hypercubic;
 ghost use Rattle.foliation.specs.Listing.{ListsPents};
 
 pub use checks::is_lawful;
-pub use coords::{Coords, n_total, vertex_coords_4d};
+pub use coords::{Coords, LawfulLattice};
 pub use hypercubic::list;
 use refusals::Refusal;
 
@@ -24,11 +24,9 @@ pub struct Lattice {
 pub fn foliated_hypercubic(lattice: Lattice, pents: &mut [u32]) -> Result<usize, Refusal>
     ensures { ListsPents lattice pents.old result pents.new }
 {
-    if !checks::is_lawful(lattice) {
-        return Err(Refusal::LatticeSize);
-    }
-    if pents.len() < 120 * coords::n_total(lattice) {
+    let lawful = LawfulLattice::new(lattice)?;
+    if pents.len() < 120 * lawful.n_total() {
         return Err(Refusal::ShortRoom);
     }
-    Ok(hypercubic::list(lattice, pents))
+    Ok(hypercubic::list(lawful, pents))
 }

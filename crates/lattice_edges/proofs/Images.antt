@@ -1,39 +1,25 @@
--- The shortest step along a periodic axis: its double, and when it is 0. Assumes nothing.
-use Prim.Native.Nat.{ℕ, suc, ◌+◌, ◌-◌, ◌/◌, ◌%◌, ◌^◌, ◌≤◌, ◌<◌}
-use mathlib.Core.Path.{◌≡◌, refl, sym, ap, ◌∙◌}
-use mathlib.Core.Bool.{Bool, true, cond}
+-- The shortest step along a periodic axis: when it is 0. Assumes nothing.
+use Prim.Native.Nat.{ℕ, suc, ◌+◌, ◌-◌, ◌/◌, ◌%◌, ◌≤◌, ◌<◌}
+use mathlib.Core.Path.{◌≡◌, refl}
+use mathlib.Core.Bool.{Bool, cond}
 use native.Mathlib.Omega.{arith}
-use lib.Dec.{T, eqb, le→leb}
+use lib.Dec.{eqb}
 use lib.IntN.{pos, negsuc, sub_ℕ}
-use lib.Ieee.{binary64, neg, of_int, in_float}
 use borrow.Author.Tests.{lt-ltb, le-ltb}
-use Rattle.floats.proofs.Integers.{neg-of_int}
 use Rattle.lists.proofs.Tests.{Says, pass, fail, eqb-says, ltb-says, says-by, said, passes}
-use Rattle.foliation.specs.declared.Lattice.{Lattice}
-use Rattle.foliation.specs.Lattice.{is_lawful}
-use Rattle.foliation.proofs.Sizes.{lawful, remainder-below}
+use Rattle.foliation.specs.declared.coords.LawfulLattice.{LawfulLattice}
+use Rattle.foliation.proofs.Sizes.{sizes, remainder-below}
 use Rattle.lattice_edges.specs.Edges.{min_image, is_zero}
 
--- ---- differences as doubles
-
--- a number of 40 bits is a double
-pub whole-fits : (n : ℕ) → n < 2 ^ 40 → T (in_float binary64 (pos n))
-unfolding in_float
-whole-fits n h = le→leb n (2 ^ 53) (omega arith)
+-- ---- differences
 
 -- b - a where a is larger
 sub-down : (a b : ℕ) → b < a → sub_ℕ b a ≡ negsuc (a - suc b)
 sub-down a b h = rw (lt-ltb b a h) refl
 
 -- b - a where it is no number below 0
-pub sub-up : (a b : ℕ) → a ≤ b → sub_ℕ b a ≡ pos (b - a)
+sub-up : (a b : ℕ) → a ≤ b → sub_ℕ b a ≡ pos (b - a)
 sub-up a b h = rw (le-ltb b a h) refl
-
--- the double of a number below 0
-pub down-double : (a b : ℕ) → b < a → neg (of_int binary64 (pos (a - b))) ≡ of_int binary64 (sub_ℕ b a)
-down-double a b h =
-    let e : a - b ≡ suc (a - suc b) = omega arith in
-    ap (λ (n : ℕ). neg (of_int binary64 (pos n))) e ∙ neg-of_int binary64 (a - suc b) ∙ ap (of_int binary64) (sym (sub-down a b h))
 
 -- ---- no step
 
@@ -54,5 +40,8 @@ zero-says a b n ha hb = go (ltb-says (a + n / 2) b) (ltb-says (b + n / 2) a)
     go (fail f) (fail g) = plain (ltb-says b a)
 
 -- the type's test of two vertices
-pub time-says : (l : Lattice) → is_lawful l ≡ true → (a b : ℕ) → Says (a % l.n_t ≡ b % l.n_t) (is_zero (min_image (a % l.n_t) (b % l.n_t) l.n_t))
-time-says l h a b = let s = (lawful l h).t_least in zero-says (a % l.n_t) (b % l.n_t) l.n_t (remainder-below a l.n_t s) (remainder-below b l.n_t s)
+pub time-says : (s : LawfulLattice) (a b : ℕ) → Says (a % s.lattice.n_t ≡ b % s.lattice.n_t) (is_zero (min_image (a % s.lattice.n_t) (b % s.lattice.n_t) s.lattice.n_t))
+time-says s a b =
+    let n = s.lattice.n_t in
+    let least = (sizes s).t_least in
+    zero-says (a % n) (b % n) n (remainder-below a n least) (remainder-below b n least)

@@ -6,6 +6,7 @@ use Rattle.std.specs.Float.Ieee.{neg, of_int}
 use Rattle.floats.specs.Ops.{◌⊕◌, ◌⊗◌}
 use Rattle.lists.specs.Rows.{rows, over}
 use Rattle.foliation.specs.declared.Lattice.{Lattice}
+use Rattle.foliation.specs.declared.coords.LawfulLattice.{LawfulLattice}
 use Rattle.foliation.specs.Lattice.{coords_of}
 use Rattle.lattice_edges.specs.declared.edges.EdgeType.{EdgeType}
 use Rattle.lattice_edges.specs.declared.edges.EdgeType.TheVariants.{Spatial, Timelike, Diagonal}
@@ -59,11 +60,15 @@ lengths_of l es spacing dt = map (λ e. sq_length_of l (get_or e 0 0) (get_or e 
 
 -- ---- entries of edges
 
--- a closure's answer is what h makes of two vertices
-abbrev pub Gives : {A : Type 0} → (ℕ → ℕ → A → Type 0) → (ℕ → ℕ → A) → Type 0
-Gives {A} post h = (a b : ℕ) (v : A) → post a b v → v ≡ h a b
+-- a closure's answer is what h makes of a lattice and two of its vertices
+abbrev pub Gives : {A : Type 0} → (LawfulLattice → ℕ → ℕ → A → Type 0) → (Lattice → ℕ → ℕ → A) → Type 0
+Gives {A} post h = (s : LawfulLattice) (a b : ℕ) (v : A) → post s a b v → v ≡ h s.lattice a b
+
+-- the entries of some edges
+abbrev pub entries_of : {A : Type 0} → (Lattice → ℕ → ℕ → A) → Lattice → List (List ℕ) → List A
+entries_of h l es = map (λ e. h l (get_or e 0 0) (get_or e 1 0)) es
 
 -- the entries of some edges, whatever h the closure computes, go to the front of a list
-abbrev pub WritesEntries : {A : Type 0} → (ℕ → ℕ → A → Type 0) → List ℕ → List A → List A → Type 0
-WritesEntries {A} post edges old new =
-    (h : ℕ → ℕ → A) → Gives post h → new ≡ over (map (λ e. h (get_or e 0 0) (get_or e 1 0)) (rows 2 (length edges / 2) edges)) old
+abbrev pub WritesEntries : {A : Type 0} → (LawfulLattice → ℕ → ℕ → A → Type 0) → LawfulLattice → List ℕ → List A → List A → Type 0
+WritesEntries {A} post s edges old new =
+    (h : Lattice → ℕ → ℕ → A) → Gives post h → new ≡ over (entries_of h s.lattice (rows 2 (length edges / 2) edges)) old

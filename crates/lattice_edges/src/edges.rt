@@ -1,13 +1,11 @@
 // The edges of a lattice: their types and flat squared lengths, by the coordinates of their two vertices.
-ghost use Rattle.std.specs.Prelude.{◌≡◌, true, ◌/◌, ◌^◌, ◌≤◌, ◌<◌, length};
+ghost use Rattle.std.specs.Prelude.{◌≡◌, ◌/◌, ◌^◌, ◌≤◌, ◌<◌, length};
 ghost use Rattle.std.proofs.Math.IntN.{sub_ℕ};
 ghost use Rattle.std.specs.Float.{binary64};
 ghost use Rattle.std.specs.Float.Ieee.{of_int};
-ghost use Rattle.lists.specs.Rows.{rows, over};
-ghost use Rattle.foliation.specs.Lattice.{is_lawful};
-ghost use Rattle.lattice_edges.specs.Edges.{WritesEntries, type_byte, edge_type_of, min_image, sq_length_of, types_of, lengths_of};
+ghost use Rattle.lattice_edges.specs.Edges.{WritesEntries, type_byte, edge_type_of, min_image, sq_length_of};
 
-use foliation::{Lattice, vertex_coords_4d};
+use foliation::LawfulLattice;
 
 // How an edge lies in the foliation.
 #[derive(Clone, Copy)]
@@ -30,11 +28,10 @@ impl EdgeType {
 }
 
 // The type of the edge from vertex a to vertex b.
-fn edge_type(lattice: Lattice, a: u32, b: u32) -> EdgeType
-    requires { is_lawful lattice ≡ true }
-    ensures { result ≡ edge_type_of lattice a b }
+pub fn edge_type(lawful: LawfulLattice, a: u32, b: u32) -> EdgeType
+    ensures { result ≡ edge_type_of lawful.lattice a b }
 {
-    let n_t = lattice.n_t;
+    let n_t = lawful.lattice.n_t;
     let p = a as usize;
     let q = b as usize;
     if p % n_t == q % n_t {
@@ -46,15 +43,12 @@ fn edge_type(lattice: Lattice, a: u32, b: u32) -> EdgeType
     EdgeType::Diagonal
 }
 
-// The double of b - a, in unsigned numbers: signed ones would need a bound for each cast, and be no plainer.
+// The double of b - a.
 fn difference(a: usize, b: usize) -> f64
     requires { (a < 2 ^ 40) × (b < 2 ^ 40) }
     ensures { result ≡ of_int binary64 (sub_ℕ b a) }
 {
-    if b < a {
-        return -((a - b) as f64);
-    }
-    (b - a) as f64
+    (b as i64 - a as i64) as f64
 }
 
 // The shortest step from a to b along an axis of n points, as a double.
@@ -73,14 +67,13 @@ fn min_image(a: usize, b: usize, n: usize) -> f64
 }
 
 // The squared length of the edge from vertex a to vertex b.
-fn sq_length(lattice: Lattice, a: u32, b: u32, spacing: f64, dt: f64) -> f64
-    requires { is_lawful lattice ≡ true }
-    ensures { result ≡ sq_length_of lattice a b spacing dt }
+pub fn sq_length(lawful: LawfulLattice, a: u32, b: u32, spacing: f64, dt: f64) -> f64
+    ensures { result ≡ sq_length_of lawful.lattice a b spacing dt }
 {
-    let n_t = lattice.n_t;
-    let n_s = lattice.n_s;
-    let p = vertex_coords_4d(lattice, a as usize);
-    let q = vertex_coords_4d(lattice, b as usize);
+    let n_t = lawful.lattice.n_t;
+    let n_s = lawful.lattice.n_s;
+    let p = lawful.vertex_coords_4d(a as usize);
+    let q = lawful.vertex_coords_4d(b as usize);
     let delta_t = min_image(p.t, q.t, n_t) * dt;
     let delta_x = min_image(p.x, q.x, n_s) * spacing;
     let delta_y = min_image(p.y, q.y, n_s) * spacing;
@@ -89,39 +82,18 @@ fn sq_length(lattice: Lattice, a: u32, b: u32, spacing: f64, dt: f64) -> f64
 }
 
 // What is made of each edge's two vertices goes to the front of a list.
-fn write_entries<T: Copy, F: Fn(u32, u32) -> T>(edges: &[u32], list: &mut [T], entry: F)
+pub fn write_entries<T: Copy, F: Fn(LawfulLattice, u32, u32) -> T>(
+    lawful: LawfulLattice,
+    edges: &[u32],
+    list: &mut [T],
+    entry: F,
+)
     requires room { length edges.now / 2 ≤ length list.old }
     requires callable { F.IsAlwaysCallable entry }
-    ensures { WritesEntries (F.post entry) edges.now list.old list.new }
+    ensures { WritesEntries (F.post entry) lawful edges.now list.old list.new }
 {
     // By index: after a loop over `iter_mut` and `zip` a proof knows the length of the list, and no entry.
     for k in 0..edges.len() / 2 {
-        list[k] = entry(edges[2 * k], edges[2 * k + 1]);
+        list[k] = entry(lawful, edges[2 * k], edges[2 * k + 1]);
     }
-}
-
-// The types of some edges.
-pub fn write_types(lattice: Lattice, edges: &[u32], types: &mut [u8])
-    requires { (is_lawful lattice ≡ true) × (length edges.now / 2 ≤ length types.old) }
-    ensures { types.new ≡ over (types_of lattice (rows 2 (length edges.now / 2) edges.now)) types.old }
-{
-    write_entries(edges, types, |a, b| edge_type(lattice, a, b).byte());
-}
-
-// The squared lengths of some edges.
-pub fn write_sq_lengths(
-    lattice: Lattice,
-    edges: &[u32],
-    spacing: f64,
-    dt: f64,
-    sq_lengths: &mut [f64],
-)
-    requires { (is_lawful lattice ≡ true) × (length edges.now / 2 ≤ length sq_lengths.old) }
-    ensures { sq_lengths.new ≡ over (lengths_of lattice (rows 2 (length edges.now / 2) edges.now) spacing dt) sq_lengths.old }
-{
-    write_entries(
-        edges,
-        sq_lengths,
-        |a, b| sq_length(lattice, a, b, spacing, dt),
-    );
 }

@@ -6,27 +6,50 @@ mod edges;
 
 ghost use Rattle.complex.specs.Lent.{edges_of, lists_of};
 ghost use Rattle.lattice_edges.specs.Edges.{types_of, lengths_of};
-ghost use Rattle.lattice_edges.specs.OnLattice.{Filled};
+ghost use Rattle.lattice_edges.specs.OnLattice.{Filled, FillsEntries};
 
 use complex::Complex;
 pub use edges::EdgeType;
-use foliation::Lattice;
+use edges::{edge_type, sq_length, write_entries};
+use foliation::{Lattice, LawfulLattice};
 use refusals::Refusal;
+
+// What is made of the two vertices of each edge of a lattice's complex goes to the front of a list. A refused call leaves the list as
+// it was; otherwise the places that are not written are kept.
+fn fill<T: Copy, F: Fn(LawfulLattice, u32, u32) -> T>(
+    lattice: Lattice,
+    complex: &Complex<'_>,
+    list: &mut [T],
+    entry: F,
+) -> Result<(), Refusal>
+    requires { F.IsAlwaysCallable entry }
+    ensures { FillsEntries (F.post entry) lattice complex.now.counts (lists_of complex.now) (edges_of complex.now) list.old result list.new }
+{
+    let lawful = checks::check(lattice, complex, list.len())?;
+    write_entries(
+        lawful,
+        &complex.edges[..2 * complex.counts.edges],
+        list,
+        entry,
+    );
+    Ok(())
+}
 
 // The type of each edge of a lattice's complex, a byte per edge. A refused call leaves the list as it was; otherwise the places
 // that are not written are kept.
 pub fn edge_types(lattice: Lattice, complex: &Complex<'_>, types: &mut [u8]) -> Result<(), Refusal>
     ensures { Filled lattice complex.now.counts (lists_of complex.now) (types_of lattice (edges_of complex.now)) types.old result types.new }
 {
-    checks::check(lattice, complex, types.len())?;
-    edges::write_types(lattice, &complex.edges[..2 * complex.counts.edges], types);
-    Ok(())
+    fill(
+        lattice,
+        complex,
+        types,
+        |lawful, a, b| edge_type(lawful, a, b).byte(),
+    )
 }
 
 // `flat_minkowski_sq_lengths`: the signed squared length of each edge of a lattice's complex, with any spacing and any time step. A
 // refused call leaves the list as it was; otherwise the places that are not written are kept.
-// Shares its two steps with `edge_types`: as one function over the entry it would be no plainer, since the entry may be asked for
-// only after the check has passed the size.
 pub fn flat_minkowski_sq_lengths(
     lattice: Lattice,
     complex: &Complex<'_>,
@@ -36,13 +59,10 @@ pub fn flat_minkowski_sq_lengths(
 ) -> Result<(), Refusal>
     ensures { Filled lattice complex.now.counts (lists_of complex.now) (lengths_of lattice (edges_of complex.now) spacing dt) sq_lengths.old result sq_lengths.new }
 {
-    checks::check(lattice, complex, sq_lengths.len())?;
-    edges::write_sq_lengths(
+    fill(
         lattice,
-        &complex.edges[..2 * complex.counts.edges],
-        spacing,
-        dt,
+        complex,
         sq_lengths,
-    );
-    Ok(())
+        |lawful, a, b| sq_length(lawful, a, b, spacing, dt),
+    )
 }

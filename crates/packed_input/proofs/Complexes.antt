@@ -26,7 +26,8 @@ use Rattle.complex.proofs.Meetings.{length-met}
 use Rattle.complex.proofs.SortedPents.{sorted-wide-all, length-sorted-all}
 use Rattle.packed_input.specs.Format.{vertex_count, pent_count, vertex_at, vertices}
 use Rattle.packed_input.specs.Decoding.{header_check_of, then_check, complex_check_of, given_in, complex_of, Few}
-use Rattle.packed_input.proofs.Refusing.{header-says}
+use Rattle.packed_input.specs.declared.fields.Packed.{Packed}
+use Rattle.packed_input.proofs.Refusing.{header-says, header-done}
 
 -- ---- the vertices
 
@@ -48,6 +49,10 @@ room-enough P h =
 
 -- ---- the answer
 
+-- an input that is read has a header that is not refused
+pub header-passes : (p : Packed) → header_check_of p.bytes.now ≡ Done
+header-passes p = sym (header-done p.bytes.now (omega (arith, p.whole)) p.layout.n_pents p.pents_read p.layout.few (omega (arith, p.whole)))
+
 module _ (input : List ℕ) where
   -- a refused header decides
   pub header-decides : (r : Refusal) → header_check_of input ≡ Err r → complex_check_of input ≡ Err r
@@ -59,7 +64,7 @@ module _ (input : List ℕ) where
   unfolding complex_check_of
   builder-decides e = rw e refl
 
-  -- with room for 64 it refuses nothing but 1, 3 and 4
+  -- with room for 64 it refuses nothing but VertexCount, VertexTooLarge and RepeatedVertex
   pub builder_refuses : header_check_of input ≡ Done
       → complex_check_of input ≡ cond (eqb (vertex_count input) 0 || ltb 4096 (vertex_count input)) (Err VertexCount) (offence (vertex_count input) 0 (pentachorons (given_in input)))
   unfolding check_of
@@ -109,3 +114,17 @@ few-complex input = go (complex_check_of input) refl
     go : (o : Outcome) → complex_check_of input ≡ o → Few (built_of o (vertex_count input) (given_in input)) 640
     go (Ok u) e = let s = small-complex input e in (s.0, s.1, s.1)
     go (Err r) e = tt
+
+-- an answer with counts has so many pentachorons
+abbrev pub AsMany : ℕ → Built → Type 0
+AsMany P (Ok c) = c.pentachorons ≡ P
+AsMany P (Err r) = Unit {0}
+
+-- the complex has as many as the header says
+pub as-many : (input : List ℕ) → AsMany (pent_count input) (complex_of input)
+unfolding counts_of
+as-many input = go (complex_check_of input)
+  where
+    go : (o : Outcome) → AsMany (pent_count input) (built_of o (vertex_count input) (given_in input))
+    go (Ok u) = omega (arith, length-sorted-all (given_in input), length-vertices input (pent_count input))
+    go (Err r) = tt

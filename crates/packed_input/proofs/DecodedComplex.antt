@@ -1,8 +1,9 @@
 -- What an input that is not refused decodes to: a built complex of its pentachorons, with as many squared lengths as edges. Assumes nothing.
 use Rattle.refusals.specs.Refusals.{Done, Outcome}
-use Rattle.std.specs.Prelude.{Err, Ok}
+use Rattle.std.specs.Prelude.{Err, Ok, Result}
+use Rattle.refusals.specs.declared.Refusal.{Refusal}
 use Prim.Native.Nat.{ℕ, ◌≤◌}
-use mathlib.Core.Path.{◌≡◌, refl, sym, ap, ◌∙◌}
+use mathlib.Core.Path.{◌≡◌, refl, sym, ap, ◌∙◌, subst}
 use mathlib.Core.Bool.{true}
 use mathlib.Core.List.{List}
 use native.Mathlib.Omega.{arith}
@@ -15,13 +16,35 @@ use Rattle.lists.specs.Rows.{over}
 use Rattle.lists.proofs.Elements.{length-upto}
 use Rattle.lists.proofs.Rows.{rows-flat}
 use Rattle.complex.specs.declared.Counts.{Counts}
+use Rattle.complex.specs.Builder.{Built}
 use Rattle.complex.specs.Builder.{sorted_pents, check_of, built_of, counts_of, Lists, written, over_all, lists_after, rooms_of}
 use Rattle.complex.specs.Check.{pents_in, room_for, is_built}
 use Rattle.complex.proofs.SortedPents.{sorted-wide-all}
 use Rattle.comparison.proofs.BuiltAgain.{builder-built}
-use Rattle.packed_input.specs.Format.{vertex_count, sq_length_at, sq_lengths_in}
-use Rattle.packed_input.specs.Decoding.{complex_check_of, given_in, tail_check_of, counts_by, with_lengths, decoded_of, zero_lists, Decodes}
-use Rattle.packed_input.proofs.Complexes.{header-passed, builder-decides, small-complex}
+use Rattle.packed_input.specs.Format.{vertex_count, pent_count, sq_length_at, sq_lengths_in}
+use Rattle.packed_input.specs.Decoding.{header_check_of, complex_check_of, given_in, complex_of, Few, tail_check_of, counts_by, with_lengths, decoded_of, zero_lists, Decodes}
+use Rattle.packed_input.specs.declared.fields.Packed.{Packed}
+use Rattle.packed_input.specs.Parts.{Reads}
+use Rattle.packed_input.proofs.Complexes.{header-passed, builder-decides, small-complex, few-complex, AsMany, as-many}
+
+-- ---- the parts that are read
+
+-- what is read are the bytes of the input
+pub read-is : (input : List ℕ) {o : Result Packed Refusal} {p : Packed} → Reads input o → o ≡ Ok p → p.bytes.now ≡ input
+read-is input h e = subst (Reads input) e h
+
+-- and its header is refused where nothing is read
+pub read-refused : (input : List ℕ) {o : Result Packed Refusal} {r : Refusal} → Reads input o → o ≡ Err r → header_check_of input ≡ Err r
+read-refused input h e = subst (Reads input) e h
+
+module _ (p : Packed) (c : Counts) (e : complex_of p.bytes.now ≡ Ok c) where
+  -- the complex of an input that is read has as many pentachorons, and at most 640 edges
+  pub parts-few : (c.pentachorons ≡ p.layout.n_pents) × (c.edges ≤ 640)
+  parts-few = (subst (AsMany (pent_count p.bytes.now)) e (as-many p.bytes.now) ∙ sym p.pents_read, (subst (λ (b : Built). Few b 640) e (few-complex p.bytes.now)).1)
+
+  -- the check of the tail decides
+  pub tail-decides : decoded_of p.bytes.now ≡ counts_by (tail_check_of p.bytes.now p.layout.n_pents c.edges) c
+  tail-decides = ap (with_lengths p.bytes.now) e ∙ ap (λ (P : ℕ). counts_by (tail_check_of p.bytes.now P c.edges) c) parts-few.0
 
 -- ---- an answer
 

@@ -13,7 +13,7 @@ use Rattle.packed_input.specs.Format.{vertex_count, pent_count, vertices_end, ve
 
 -- ---- refusals
 
--- 12 where the header is short, then 13 where there are more than 64 pentachorons, then 12 where the vertices are cut short
+-- BadInput where the header is short, then TooManyPentachorons where there are more than 64, then BadInput where the vertices are cut short
 unfoldable pub header_check_of : List ℕ → Outcome
 header_check_of input =
     cond (ltb (8 * length input) 27) (Err BadInput)
@@ -29,11 +29,11 @@ then_check (Err r) second = Err r
 abbrev pub given_in : List ℕ → List ℕ
 given_in input = vertices input (pent_count input)
 
--- the header's refusals, then those of the builder with room for 64 pentachorons: 1, 3 and 4
+-- the header's refusals, then those of the builder with room for 64 pentachorons: VertexCount, VertexTooLarge and RepeatedVertex
 unfoldable pub complex_check_of : List ℕ → Outcome
 complex_check_of input = then_check (header_check_of input) (check_of (vertex_count input) (given_in input) (room_for 64))
 
--- 12 where a bit between the vertices and the lengths is set, or the lengths of E edges do not end the input exactly
+-- BadInput where a bit between the vertices and the lengths is set, or the lengths of E edges do not end the input exactly
 unfoldable pub tail_check_of : List ℕ → ℕ → ℕ → Outcome
 tail_check_of input P E = cond (not (eqb (length input) (lengths_start P + 8 * E)) || not (eqb (padding input P) 0)) (Err BadInput) Done
 

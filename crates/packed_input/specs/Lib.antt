@@ -1,3 +1,4 @@
 -- The definitions that contracts on the program's input cite.
 pub mod Format
 pub mod Decoding
+pub mod Parts

@@ -1,9 +1,8 @@
 // The parts of the input: the header, the vertices of the pentachorons, the bits after them, and the squared lengths.
-ghost use Rattle.std.specs.Prelude.{◌≡◌, map, ◌+◌, ◌*◌, ◌<◌, ◌≤◌, length};
-ghost use Rattle.lists.specs.Lists.{upto};
+ghost use Rattle.std.specs.Prelude.{◌≡◌, ◌+◌, ◌*◌, ◌≤◌, length};
 ghost use Rattle.lists.specs.Rows.{over};
 ghost use Rattle.packed_input.specs.Format.{vertex_count, pent_count, vertices_end, vertices, lengths_start, sq_lengths_in};
-ghost use Rattle.packed_input.specs.Decoding.{header_check_of, tail_check_of};
+ghost use Rattle.packed_input.specs.Decoding.{tail_check_of};
 
 use crate::bits::number;
 use refusals::Refusal;
@@ -34,22 +33,6 @@ const MOST_PENTS: usize = 64;
 
 // ---- its parts
 
-// The vertex count.
-pub fn vertex_count(input: &[u8]) -> usize
-    requires { 4 ≤ length input.now }
-    ensures { result ≡ vertex_count input.now }
-{
-    number(input, 0, VERTEX_COUNT_BITS) as usize
-}
-
-// The pentachoron count.
-pub fn pent_count(input: &[u8]) -> usize
-    requires { 4 ≤ length input.now }
-    ensures { result ≡ pent_count input.now }
-{
-    number(input, VERTEX_COUNT_BITS, PENT_COUNT_BITS) as usize
-}
-
 // Where the parts of an input lie that has so many pentachorons.
 #[derive(Clone, Copy)]
 pub struct Layout {
@@ -73,53 +56,80 @@ impl Layout {
     }
 }
 
-// 12 for a short header, 13 for more than 64 pentachorons, 12 for vertices that are cut short.
-pub fn check_header(input: &[u8]) -> Result<(), Refusal>
-    ensures { result ≡ header_check_of input.now }
-{
-    if input.len() < HEADER_BYTES {
-        return Err(Refusal::BadInput);
-    }
-    let n_pents = pent_count(input);
-    if MOST_PENTS < n_pents {
-        return Err(Refusal::TooManyPentachorons);
-    }
-    if input.len() < (Layout { n_pents }).lengths_start() {
-        return Err(Refusal::BadInput);
-    }
-    Ok(())
+// An input whose header and vertices are there: its bytes, its vertex count, and where its parts lie.
+#[derive(Clone, Copy)]
+pub struct Packed<'a> {
+    pub bytes: &'a [u8],
+    pub n_vertices: usize,
+    pub layout: Layout,
+    ghost vertices_read: { n_vertices ≡ vertex_count bytes.now },
+    ghost pents_read: { layout.n_pents ≡ pent_count bytes.now },
+    ghost whole: { vertices_end layout.n_pents ≤ 8 * length bytes.now },
 }
 
-// Writes the vertices of the pentachorons to the front of a list.
-pub fn read_vertices(input: &[u8], layout: Layout, given: &mut [u32])
-    requires { (vertices_end layout.n_pents ≤ 8 * length input.now) × (5 * layout.n_pents ≤ length given.old) }
-    ensures { given.new ≡ over (vertices input.now layout.n_pents) given.old }
-{
-    for i in 0..5 * layout.n_pents {
-        given[i] = number(input, HEADER_BITS + VERTEX_BITS * i, VERTEX_BITS) as u32;
-    }
-}
+impl<'a> Packed<'a> {
+    ghost use Rattle.packed_input.specs.Parts.{Reads};
 
-// 12 for a bit that is set between vertices and lengths, or lengths that do not end the input exactly.
-pub fn check_tail(input: &[u8], layout: Layout, n_edges: usize) -> Result<(), Refusal>
-    requires { n_edges ≤ 640 }
-    ensures { result ≡ tail_check_of input.now layout.n_pents n_edges }
-{
-    let start = layout.lengths_start();
-    let end = layout.vertices_end();
-    if input.len() != start + LENGTH_BYTES * n_edges || number(input, end, 8 * start - end) != 0 {
-        return Err(Refusal::BadInput);
+    // BadInput for a short header, TooManyPentachorons for more than 64, BadInput for vertices that are cut short.
+    pub fn read(bytes: &'a [u8]) -> Result<Packed<'a>, Refusal>
+        ensures { Reads bytes.now result }
+    {
+        if bytes.len() < HEADER_BYTES {
+            return Err(Refusal::BadInput);
+        }
+        let n_vertices = number(bytes, 0, VERTEX_COUNT_BITS) as usize;
+        let n_pents = number(bytes, VERTEX_COUNT_BITS, PENT_COUNT_BITS) as usize;
+        if MOST_PENTS < n_pents {
+            return Err(Refusal::TooManyPentachorons);
+        }
+        let layout = Layout { n_pents };
+        if bytes.len() < layout.lengths_start() {
+            return Err(Refusal::BadInput);
+        }
+        Ok(Packed {
+            bytes,
+            n_vertices,
+            layout,
+        })
     }
-    Ok(())
-}
 
-// Writes the squared lengths to the front of a list.
-pub fn read_lengths(input: &[u8], layout: Layout, n_edges: usize, sq_lengths: &mut [f64])
-    requires { (n_edges ≤ 640) × (lengths_start layout.n_pents + 8 * n_edges ≤ length input.now) × (n_edges ≤ length sq_lengths.old) }
-    ensures { sq_lengths.new ≡ over (sq_lengths_in input.now layout.n_pents n_edges) sq_lengths.old }
-{
-    let start = 8 * layout.lengths_start();
-    for i in 0..n_edges {
-        sq_lengths[i] = floats::of_bits(number(input, start + LENGTH_BITS * i, LENGTH_BITS));
+    // Writes the vertices of the pentachorons to the front of a list.
+    pub fn read_vertices(&self, given: &mut [u32])
+        requires { 5 * self.now.layout.n_pents ≤ length given.old }
+        ensures { given.new ≡ over (vertices self.now.bytes.now self.now.layout.n_pents) given.old }
+    {
+        let input = self.bytes;
+        for i in 0..5 * self.layout.n_pents {
+            given[i] = number(input, HEADER_BITS + VERTEX_BITS * i, VERTEX_BITS) as u32;
+        }
+    }
+
+    // BadInput for a bit that is set between vertices and lengths, or lengths that do not end the input exactly.
+    pub fn check_tail(&self, n_edges: usize) -> Result<(), Refusal>
+        requires { n_edges ≤ 640 }
+        ensures { result ≡ tail_check_of self.now.bytes.now self.now.layout.n_pents n_edges }
+    {
+        let start = self.layout.lengths_start();
+        let end = self.layout.vertices_end();
+        let input = self.bytes;
+        if input.len() != start + LENGTH_BYTES * n_edges
+            || number(input, end, 8 * start - end) != 0
+        {
+            return Err(Refusal::BadInput);
+        }
+        Ok(())
+    }
+
+    // Writes the squared lengths to the front of a list.
+    pub fn read_lengths(&self, n_edges: usize, sq_lengths: &mut [f64])
+        requires { (n_edges ≤ 640) × (lengths_start self.now.layout.n_pents + 8 * n_edges ≤ length self.now.bytes.now) × (n_edges ≤ length sq_lengths.old) }
+        ensures { sq_lengths.new ≡ over (sq_lengths_in self.now.bytes.now self.now.layout.n_pents n_edges) sq_lengths.old }
+    {
+        let input = self.bytes;
+        let start = 8 * self.layout.lengths_start();
+        for i in 0..n_edges {
+            let at = start + LENGTH_BITS * i;
+            sq_lengths[i] = floats::of_bits(number(input, at, LENGTH_BITS));
+        }
     }
 }

@@ -5,16 +5,14 @@ mod bits;
 mod fields;
 
 ghost use Rattle.std.specs.Prelude.{◌≡◌, length};
-ghost use Rattle.complex.specs.Builder.{Built, lists_after, rooms_of};
+ghost use Rattle.complex.specs.Builder.{lists_after, rooms_of};
 ghost use Rattle.complex.specs.Check.{room_for};
 ghost use Rattle.complex.specs.Lent.{lists_of, lists_in, SameLists};
-ghost use Rattle.packed_input.specs.Decoding.{complex_of, complex_check_of, given_in, with_lengths, lengths_after, Few, lists_held, Decodes};
+ghost use Rattle.packed_input.specs.Decoding.{complex_of, complex_check_of, given_in, decoded_of, lengths_after, lists_held, Decodes};
 
 use builder::from_pentachorons;
 use complex::{AdjacencyList, Complex, Counts, ListsMut};
-use fields::{
-    Layout, check_header, check_tail, pent_count, read_lengths, read_vertices, vertex_count,
-};
+use fields::Packed;
 use refusals::Refusal;
 
 // The ten lists of a decoded complex, with room for 64 pentachorons; what is not written is zero.
@@ -69,41 +67,44 @@ pub struct Decoded {
     pub sq_lengths: [f64; 640],
 }
 
-// The input's complex: 12 or 13 for its header, then the builder's answer. A refused call leaves every list as it was.
-fn decode_complex(input: &[u8], lists: &mut ListsMut<'_>) -> Result<Counts, Refusal>
+// The input's complex: the builder's answer. A refused call leaves every list as it was.
+fn decode_complex(packed: &Packed<'_>, lists: &mut ListsMut<'_>) -> Result<Counts, Refusal>
     requires { rooms_of (lists_in lists.old) ≡ room_for 64 }
     ensures same { SameLists lists.old lists.new }
-    ensures value { result ≡ complex_of input.now }
-    ensures lists_after { lists_in lists.new ≡ lists_after (complex_check_of input.now) (given_in input.now) (lists_in lists.old) }
+    ensures value { result ≡ complex_of packed.now.bytes.now }
+    ensures lists_after { lists_in lists.new ≡ lists_after (complex_check_of packed.now.bytes.now) (given_in packed.now.bytes.now) (lists_in lists.old) }
 {
-    check_header(input)?;
     let mut given = [0u32; 320];
-    let n_pents = pent_count(input);
-    read_vertices(input, Layout { n_pents }, &mut given);
-    from_pentachorons(vertex_count(input), &given[..5 * n_pents], lists)
+    packed.read_vertices(&mut given);
+    from_pentachorons(
+        packed.n_vertices,
+        &given[..5 * packed.layout.n_pents],
+        lists,
+    )
 }
 
-// The counts of a complex, or 12 where its lengths are not all that is left of the input. A refused call leaves the list as it was.
-fn decode_lengths(
+// The counts of the input's complex, its lists and its lengths. A refused call leaves the lengths as they were, and where the header or
+// the builder refuses it every list too.
+fn decode_parts(
     input: &[u8],
-    built: Result<Counts, Refusal>,
+    lists: &mut ListsMut<'_>,
     sq_lengths: &mut [f64],
 ) -> Result<Counts, Refusal>
-    requires { Few built (length sq_lengths.old) }
-    ensures { (result ≡ with_lengths input.now built) × (sq_lengths.new ≡ lengths_after input.now result sq_lengths.old) }
+    requires rooms { rooms_of (lists_in lists.old) ≡ room_for 64 }
+    requires places { length sq_lengths.old ≡ 640 }
+    ensures same { SameLists lists.old lists.new }
+    ensures value { result ≡ decoded_of input.now }
+    ensures lists_after { lists_in lists.new ≡ lists_after (complex_check_of input.now) (given_in input.now) (lists_in lists.old) }
+    ensures lengths { sq_lengths.new ≡ lengths_after input.now result sq_lengths.old }
 {
-    let counts = built?;
-    let layout = Layout {
-        n_pents: counts.pentachorons,
-    };
-    check_tail(input, layout, counts.edges)?;
-    read_lengths(input, layout, counts.edges, sq_lengths);
+    let packed = Packed::read(input)?;
+    let counts = decode_complex(&packed, lists)?;
+    packed.check_tail(counts.edges)?;
+    packed.read_lengths(counts.edges, sq_lengths);
     Ok(counts)
 }
 
-// Decodes the program's input. The checks come in this order: 12 for a short header, 13 for more than 64 pentachorons, 12 for
-// vertices that are cut short, the builder's 1, 3 and 4, and 12 for a bit set before the lengths or lengths that do not end the
-// input exactly.
+// Decodes the program's input. The checks come in this order: those of the header, the builder's, and that of the tail.
 pub fn decode(input: &[u8]) -> Decoded
     ensures { Decodes input.now result.answer (lists_held result.lists) result.sq_lengths }
 {
@@ -132,8 +133,7 @@ pub fn decode(input: &[u8]) -> Decoded
         edge_to_pents_items: &mut lists.edge_to_pents_items,
         edge_to_pents_starts: &mut lists.edge_to_pents_starts,
     };
-    let built = decode_complex(input, &mut lent);
-    let answer = decode_lengths(input, built, &mut sq_lengths);
+    let answer = decode_parts(input, &mut lent, &mut sq_lengths);
     Decoded {
         answer,
         lists,

@@ -1,40 +1,8 @@
 -- `lattice_edges::edge_types` meets its contract. Assumes nothing.
-use Rattle.std.specs.Prelude.{Err}
-use mathlib.Core.Path.{refl, sym, ap, ◌∙◌}
-use native.Mathlib.Omega.{arith}
-use lib.ListN.{length}
-use lib.Seq.{length-take-le}
-use Rattle.std.proofs.lemmas.Result.{err_from_is_err_and}
-use Rattle.complex.specs.Lent.{lists_of}
-use Rattle.lattice_edges.proofs.Passed.{passed, front-rows}
+use Rattle.std.proofs.Common.{rules}
+use Rattle.lattice_edges.specs.Edges.{type_byte, edge_type_of, types_of}
 use Rattle.lattice_edges.proofs.edge_types.Goals as goal
 
-pub returns-in_err-check : goal.returns-in_err-check
-returns-in_err-check c =
-    let p = err_from_is_err_and c.from_residual.result c.from_residual.ensures.1 in
-    record { answered = p.1 ∙ ap Err p.2 ∙ sym (sym c.check.ensures ∙ c.in_err-check.was); left = rw p.1 refl }
-
-pub overflow_mul-complex : goal.overflow_mul-complex
-overflow_mul-complex c =
-    let a = c.args in
-    let p = passed a.lattice a.complex.now.counts (lists_of a.complex.now) (length a.types.now) (sym c.check.ensures ∙ c.in_ok-check.was) in
-    omega (arith, p.ends)
-
-pub slice_bounds-write_types-end : goal.slice_bounds-write_types-end
-slice_bounds-write_types-end c =
-    let a = c.args in
-    let p = passed a.lattice a.complex.now.counts (lists_of a.complex.now) (length a.types.now) (sym c.check.ensures ∙ c.in_ok-check.was) in
-    sym (length-take-le _ _ p.ends)
-
-pub write_types-requires : goal.write_types-requires
-write_types-requires c =
-    let a = c.args in
-    let p = passed a.lattice a.complex.now.counts (lists_of a.complex.now) (length a.types.now) (sym c.check.ensures ∙ c.in_ok-check.was) in
-    let long = length-take-le _ _ p.ends in
-    (p.lawful, omega (arith, long, p.places))
-
 pub returns : goal.returns
-returns c =
-    let a = c.args in
-    let p = passed a.lattice a.complex.now.counts (lists_of a.complex.now) (length a.types.now) (sym c.check.ensures ∙ c.in_ok-check.was) in
-    record { answered = sym (sym c.check.ensures ∙ c.in_ok-check.was); left = rw (front-rows a.complex.now.counts.edges a.complex.now.edges.now p.ends) at c.write_types.ensures }
+unfolding types_of
+returns c = c.fill.ensures (λ l a b. type_byte (edge_type_of l a b)) (λ s a b v p. search (rules, p))

@@ -8,4 +8,4 @@ use Rattle.foliation.proofs.Listings.{paths_to}
 use Rattle.foliation.proofs.hypercubic.write_paths.Given as goal
 
 abbrev pub invariant-loop-k : goal.invariant-loop-k
-invariant-loop-k l = (l.k ≤ l.count) × (length l.given ≡ length l.initial.given) × (l.given ≡ flat (paths_to l.lattice l.k) ++ drop (5 * l.k) l.initial.given)
+invariant-loop-k l = (l.k ≤ l.count) × (length l.given ≡ length l.initial.given) × (l.given ≡ flat (paths_to l.lawful.lattice l.k) ++ drop (5 * l.k) l.initial.given)

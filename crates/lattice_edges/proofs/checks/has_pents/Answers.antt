@@ -13,7 +13,7 @@ use Rattle.std.proofs.lemmas.Slice.Eq.{slice_eq-Decides}
 use Rattle.lists.specs.Rows.{begins}
 use Rattle.lists.proofs.Tests.{says-by, says_same}
 use Rattle.lists.proofs.Rows.{begins-says}
-use Rattle.foliation.proofs.Sizes.{lawful}
+use Rattle.foliation.proofs.Sizes.{sizes}
 use Rattle.foliation.proofs.Listings.{pents-few, pents-front, paths-room}
 use Rattle.lattice_edges.specs.OnLattice.{has_lattice_pents}
 use Rattle.lattice_edges.proofs.checks.has_pents.Goals as goal
@@ -31,37 +31,37 @@ returns-then-counts-n_total c = rw (ne_eqb _ _ (rw c.n_total.ensures at c.if-cou
 pub list-count-requires : goal.list-count-requires
 list-count-requires c =
     let a = c.args in
-    let l = a.lattice in
-    let ok = lawful l c.requires in
-    (c.requires, paths-room l ok (replicate 40920 0) (replicate 40920 0) 40920 refl refl refl)
+    let l = a.lawful.lattice in
+    let ok = sizes a.lawful in
+    paths-room l ok (replicate 40920 0) (replicate 40920 0) 40920 refl refl refl
 
 pub overflow_mul-own : goal.overflow_mul-own
 overflow_mul-own c =
     let a = c.args in
-    let l = a.lattice in
-    let ok = lawful l c.requires in
+    let l = a.lawful.lattice in
+    let ok = sizes a.lawful in
     omega (arith, c.list-count.ensures.0, pents-few l ok, ok.cells)
 
 pub slice_bounds-own-end : goal.slice_bounds-own-end
 slice_bounds-own-end c =
     let a = c.args in
-    let l = a.lattice in
-    let ok = lawful l c.requires in
+    let l = a.lawful.lattice in
+    let ok = sizes a.lawful in
     omega (arith, c.list-count.ensures.0, pents-few l ok, ok.cells)
 
 pub slice_bounds-starts_with-end : goal.slice_bounds-starts_with-end
 slice_bounds-starts_with-end c =
     let a = c.args in
-    let l = a.lattice in
-    let ok = lawful l c.requires in
+    let l = a.lawful.lattice in
+    let ok = sizes a.lawful in
     sym (length-take-le _ _ (omega (arith, paths-room l ok (replicate 40920 0) c.list-count.new.pents 40920 refl refl c.list-count.auto.pents, pents-few l ok, c.list-count.ensures.0)))
 
 pub returns-then-counts-count : goal.returns-then-counts-count
 unfolding has_lattice_pents
 returns-then-counts-count c =
     let a = c.args in
-    let l = a.lattice in
-    let ok = lawful l c.requires in
+    let l = a.lawful.lattice in
+    let ok = sizes a.lawful in
     let front = pents-front l ok _ _ _ c.list-count.ensures.0 c.list-count.ensures.1 in
     let begun = rw front at (c.starts_with.ensures.value ∙ starts_with-begins a.complex.now.pents.now _) in
     begun ∙ rw (eq-eqb _ _ (rw c.n_total.ensures at c.if-counts-n_total.false), eq-eqb _ _ (rw c.list-count.ensures.0 at c.if-counts-count.true)) refl

@@ -20,7 +20,7 @@ loop-k-preserved g c =
       omega arith,
       length-set l.list l.k c.entry.result ∙ l.invariant.1,
       l.invariant.2,
-      λ h gives. rw (gives _ _ _ c.entry.ensures, add-one l.k) (map-turn (entry_at h a.edges.now) a.list.now l.list l.k (omega (arith, l.invariant.2, c.requires.room)) l.invariant.1 (l.invariant.3 h gives)),
+      λ h gives. rw (gives _ _ _ _ c.entry.ensures, add-one l.k) (map-turn (entry_at (h a.lawful.lattice) a.edges.now) a.list.now l.list l.k (omega (arith, l.invariant.2, c.requires.room)) l.invariant.1 (l.invariant.3 h gives)),
     )
 
 pub returns : goal.returns
@@ -29,4 +29,4 @@ returns g c h gives =
     let l = c.loop-k in
     let n = length a.edges.now / 2 in
     let e : l.k ≡ n = omega (arith, l.invariant.2) in
-    rw (map-pairs h n a.edges.now) (map-done (entry_at h a.edges.now) a.list.now l.list n (rw e at l.invariant.3 h gives))
+    rw (map-pairs (h a.lawful.lattice) n a.edges.now) (map-done (entry_at (h a.lawful.lattice) a.edges.now) a.list.now l.list n (rw e at l.invariant.3 h gives))

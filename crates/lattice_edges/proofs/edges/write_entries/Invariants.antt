@@ -4,6 +4,7 @@ use mathlib.Core.Path.{◌≡◌}
 use mathlib.Core.List.{List, ◌++◌, map}
 use lib.ListN.{length, get_or, drop}
 use Rattle.lists.specs.Lists.{upto}
+use Rattle.foliation.specs.declared.Lattice.{Lattice}
 use Rattle.lattice_edges.specs.Edges.{Gives}
 use Rattle.lattice_edges.proofs.edges.write_entries.Given as goal
 
@@ -12,4 +13,4 @@ abbrev pub entry_at : {A : Type 0} → (ℕ → ℕ → A) → List ℕ → ℕ 
 entry_at h edges k = h (get_or edges (2 * k) 0) (get_or edges (2 * k + 1) 0)
 
 abbrev pub invariant-loop-k : goal.invariant-loop-k
-invariant-loop-k g l = (l.k ≤ l.k-end) × (length l.list ≡ length l.initial.list) × (l.k-end ≡ length l.edges / 2) × ((h : ℕ → ℕ → g.row.T.Denot) → Gives (goal.F-post g l.entry) h → l.list ≡ map (entry_at h l.edges) (upto l.k) ++ drop l.k l.initial.list)
+invariant-loop-k g l = (l.k ≤ l.k-end) × (length l.list ≡ length l.initial.list) × (l.k-end ≡ length l.edges / 2) × ((h : Lattice → ℕ → ℕ → g.row.T.Denot) → Gives (goal.F-post g l.entry) h → l.list ≡ map (entry_at (h l.lawful.lattice) l.edges) (upto l.k) ++ drop l.k l.initial.list)
