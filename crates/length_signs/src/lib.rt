@@ -1,9 +1,12 @@
 // How many squared lengths are timelike, null and spacelike.
 #![tactic(auto)]
 
-ghost use Rattle.std.specs.Prelude.{◌≡◌, ◌+◌, ◌^◌, ◌<◌};
+ghost use Rattle.std.specs.Prelude.{◌≡◌, ◌+◌, ◌^◌, ◌<◌, Some};
 ghost use Rattle.length_signs.specs.LengthSigns.{signs_of};
 ghost use Rattle.length_signs.specs.Parts.{with_length};
+ghost use Rattle.length_signs.specs.Text.{signs_text};
+
+use std::fmt;
 
 // Counts of lengths below zero, of either zero, and of all others, NaN among them.
 #[derive(Clone, Copy, Default)]
@@ -11,6 +14,19 @@ pub struct LengthSigns {
     pub timelike: usize,
     pub null: usize,
     pub spacelike: usize,
+}
+
+// As the programs print them: each count after its name.
+impl fmt::Display for LengthSigns {
+    ghost output = { λ signs. Some (signs_text signs) };
+
+    fn fmt<W: fmt::Write>(&self, f: &mut fmt::Formatter<W>) -> fmt::Result {
+        write!(
+            f,
+            "timelike {} null {} spacelike {}",
+            self.timelike, self.null, self.spacelike
+        )
+    }
 }
 
 // The counts with one length more.

@@ -1,5 +1,5 @@
 -- Dihedrals by both rules. In either a dihedral is an angle or a boost and carries its one number. Definitions only.
-use Rattle.std.specs.Prelude.{ℕ, ◌+◌, ◌≡◌, cond, ◌||◌, List, [], ◌∷◌, ltb, eqb, Float, Result, Ok, Err}
+use Rattle.std.specs.Prelude.{ℕ, ◌+◌, ◌≡◌, cond, ◌||◌, List, [], ◌∷◌, ltb, eqb, Float, Result, Ok, Err, codes}
 use Rattle.std.specs.Float.Ieee.{neg, lt, le}
 use Rattle.refusals.specs.declared.Refusal.{Refusal}
 use Rattle.refusals.specs.declared.Refusal.TheVariants.{BadIndex}
@@ -23,6 +23,11 @@ use Rattle.lorentzian.specs.declared.dihedral.Dihedral.TheVariants.{Angle, Boost
 abbrev pub kind_number : HingeType → ℕ
 kind_number Spacelike = 0
 kind_number Timelike = 1
+
+-- the letter S or T
+abbrev pub kind_text : HingeType → List ℕ
+kind_text Spacelike = codes "S"
+kind_text Timelike = codes "T"
 
 -- an angle's kind is Spacelike, a boost's Timelike
 abbrev pub kind_of : Dihedral → HingeType

@@ -1,12 +1,13 @@
 // Dihedrals by both rules: from three cofactors, and from two vertices of a pentachoron.
-ghost use Rattle.std.specs.Prelude.{◌≡◌, ◌<◌, Float};
-ghost use Rattle.lorentzian.specs.Dihedral.{kind_number, kind_of, value_of, kind_number_of, ratio_of, of_ratio, of_mixed, compute_dihedral, dihedral_by_root, Gives, dihedral_by, pairs, dihedral_answer, value_or, kind_or};
+ghost use Rattle.std.specs.Prelude.{◌≡◌, ◌<◌, Float, Some};
+ghost use Rattle.lorentzian.specs.Dihedral.{kind_number, kind_text, kind_of, value_of, kind_number_of, ratio_of, of_ratio, of_mixed, compute_dihedral, dihedral_by_root, Gives, dihedral_by, pairs, dihedral_answer, value_or, kind_or};
 
 use fdlibm::{acos, acosh, asinh};
 use floats::{abs, clamp_unit, signum};
 use geometry::{cm_cofactors, cm_matrix_signed, cofactor_at};
 use refusals::Refusal;
 use root::root;
+use std::fmt;
 
 // ---- the cases
 
@@ -25,6 +26,18 @@ impl HingeType {
         ensures { result ≡ kind_number self }
     {
         self as u8
+    }
+}
+
+// As the programs print it: the letter S or T.
+impl fmt::Display for HingeType {
+    ghost output = { λ kind. Some (kind_text kind) };
+
+    fn fmt<W: fmt::Write>(&self, f: &mut fmt::Formatter<W>) -> fmt::Result {
+        f.write_str(match self {
+            HingeType::Spacelike => "S",
+            HingeType::Timelike => "T",
+        })
     }
 }
 

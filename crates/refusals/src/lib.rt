@@ -2,8 +2,11 @@
 // answers a `Result` with a `Refusal` as its error. Nothing else matches on the cases, so that a new one costs this crate alone.
 #![tactic(auto)]
 
-ghost use Rattle.std.specs.Prelude.{◌≡◌};
+ghost use Rattle.std.specs.Prelude.{◌≡◌, Some};
 ghost use Rattle.refusals.specs.Refusals.{number_of, place_of, number_in, place_in};
+ghost use Rattle.refusals.specs.Text.{refusal_text};
+
+use std::fmt;
 
 #[derive(Clone, Copy, Debug, PartialEq, Eq)]
 pub enum Refusal {
@@ -64,8 +67,27 @@ impl Refusal {
         match self {
             Refusal::VertexTooLarge(pentachoron) => pentachoron,
             Refusal::RepeatedVertex(pentachoron) => pentachoron,
-            _ => 0,
+            Refusal::VertexCount
+            | Refusal::ListLength
+            | Refusal::ShortRoom
+            | Refusal::LatticeSize
+            | Refusal::NotBuilt
+            | Refusal::LengthCount
+            | Refusal::EdgeTooLarge
+            | Refusal::RepeatedEdge
+            | Refusal::BadIndex
+            | Refusal::BadInput
+            | Refusal::TooManyPentachorons => 0,
         }
+    }
+}
+
+// As the programs print it: `refused`, its number and its place.
+impl fmt::Display for Refusal {
+    ghost output = { λ refusal. Some (refusal_text refusal) };
+
+    fn fmt<W: fmt::Write>(&self, f: &mut fmt::Formatter<W>) -> fmt::Result {
+        write!(f, "refused {} {}", self.number(), self.place())
     }
 }
 
