@@ -1,15 +1,18 @@
-// What the replay programs share: numbers read from hexadecimal digits, lists filled with them or with a pattern, and what they
-// read and print alike.
+// What the replay programs share: numbers read from hexadecimal digits, lists filled with them or with a pattern, lines of numbers,
+// and rows of doubles as text.
 #![tactic(auto)]
 
-ghost use Rattle.std.specs.Prelude.{◌≡◌, ◌+◌, ◌*◌, ◌<◌, map, length, take, set, ℕ, Ok};
+ghost use Rattle.std.specs.Prelude.{◌≡◌, ◌+◌, ◌*◌, ◌<◌, map, length, take, set, ℕ, Some, Ok};
 ghost use Rattle.std.specs.Float.{binary64};
 ghost use Rattle.std.specs.Float.Ieee.{of_bits};
 ghost use Rattle.lists.specs.Lists.{upto};
 ghost use Rattle.replay.specs.Hexadecimal.{digit_of, number_at};
+ghost use Rattle.replay.specs.Texts.{texts_of};
 ghost use Rattle.replay.specs.Filled.{Made, word_of, entry_in, pattern_at};
 
 pub use printing::{Bits, print_row, read_full};
+use std::fmt;
+use std::fmt::Display;
 use std::io::Result;
 
 // ---- numbers
@@ -73,9 +76,8 @@ fn fill<T: Copy, F: Fn(usize) -> T>(list: &mut [T], f: F)
     requires { (k : ℕ) → k < length list.old → F.pre f k }
     ensures { Made (F.post f) list.old list.new }
 {
-    // By index: after a loop over `iter_mut` a proof knows the length of the list, and no entry.
-    for i in 0..list.len() {
-        list[i] = f(i);
+    for (i, entry) in list.iter_mut().enumerate() {
+        *entry = f(i);
     }
 }
 
@@ -110,6 +112,24 @@ pub fn put<T: Copy>(list: &mut [T], place: usize, value: T)
     }
 }
 
+// ---- rows
+
+// Doubles as text: each after a space.
+#[derive(Clone, Copy)]
+pub struct Doubles<'a>(pub &'a [f64]);
+
+impl Display for Doubles<'_> {
+    ghost output = { λ row. Some (texts_of row.0.now) };
+
+    fn fmt<W: fmt::Write>(&self, f: &mut fmt::Formatter<W>) -> fmt::Result {
+        for x in self.0 {
+            let bits = Bits(*x);
+            write!(f, " {bits}")?;
+        }
+        Ok(())
+    }
+}
+
 // ---- lines
 
 // A line of numbers: 16 digits each, and a byte after them.
@@ -140,10 +160,18 @@ impl Line<'_> {
     {
         T::from_number(self.number(i))
     }
+
+    // Fills a list with the entries of the i-th number and those after it.
+    pub fn read<T: Entry>(self, i: usize, list: &mut [T])
+        requires { 17 * (i + length list.old) < 0x1_0000_0000 }
+        ensures { list.new ≡ map (entry_in T.of_number self.entry.0.now (17 * i)) (upto (length list.old)) }
+    {
+        read_list(self.0, 17 * i, list);
+    }
 }
 
 // Prints the answers to each line of a text of `len` bytes: `print_line` prints those to the line that starts at a place, and answers
-// where the next line starts.
+// where the next line starts. A `for` would be no plainer: only a line itself says where the next one starts.
 pub fn print_lines<F: Fn(usize) -> Result<usize>>(len: usize, print_line: F) -> Result<()>
     requires can { (at : ℕ) → at < len → F.pre print_line at }
     requires advances { (at : ℕ) (next : ℕ) → at < len → F.post print_line at (Ok next) → at < next }

@@ -6,43 +6,68 @@
 // 50000 + i before. oracle/complex made stdin and stdout from the Rust's answers and the table of refusals.
 #![tactic(auto)]
 
-ghost use Rattle.std.specs.Prelude.{◌<◌, ◌≤◌, length, IfOk};
+ghost use Rattle.std.specs.Prelude.{◌+◌, ◌<◌, ◌≤◌, length, IfOk};
 
 use complex::Counts;
 use refusals::{Refusal, number_in};
-use replay::{Line, print_lines, print_row, read_full, read_list};
-use replay_lists::{Change, LentList, ListName, Lists, Target, with_count};
+use replay::{Line, print_lines, print_row, read_full};
+use replay_lists::{Change, CountName, LentList, ListName, Lists, Target, with_count};
 use std::io::Result;
 
 // ---- reading
 
-// How many vertices the pentachorons of a line have, 100 where they are more.
-fn vertices_of(line: Line<'_>) -> usize
-    ensures { result ≤ 100 }
-{
-    line.size(0).min(100)
+// A line, and what it says before its vertices.
+#[derive(Clone, Copy)]
+struct Settings<'a> {
+    line: Line<'a>,
+    vertices: usize,
+    // How many vertices of pentachorons and changes follow.
+    given: usize,
+    changes: usize,
+    ghost followed: { (given ≤ 100) × (changes ≤ 300) },
 }
 
-// How many changes a line has, 300 where they are more.
-fn changes_of(line: Line<'_>) -> usize
-    ensures { result ≤ 300 }
-{
-    line.size(12).min(300)
+impl<'a> From<Line<'a>> for Settings<'a> {
+    fn from(line: Line<'a>) -> Settings<'a> {
+        Settings {
+            line,
+            vertices: line.size(1),
+            given: line.size(0).min(100),
+            changes: line.size(12).min(300),
+        }
+    }
 }
 
-// The ten lists before the call of a line.
-fn lists_of(line: Line<'_>) -> Lists<1000> {
-    Lists {
-        pents: LentList::patterned(line.size(2)),
-        edges: LentList::patterned(line.size(3)),
-        triangles: LentList::patterned(line.size(4)),
-        tets: LentList::patterned(line.size(5)),
-        tri_to_pents_items: LentList::patterned(line.size(6)),
-        tri_to_pents_starts: LentList::patterned(line.size(7)),
-        edge_to_tris_items: LentList::patterned(line.size(8)),
-        edge_to_tris_starts: LentList::patterned(line.size(9)),
-        edge_to_pents_items: LentList::patterned(line.size(10)),
-        edge_to_pents_starts: LentList::patterned(line.size(11)),
+impl Settings<'_> {
+    // How many numbers the line has.
+    fn line_numbers(&self) -> usize
+        ensures { (0 < result) × (result < 1000) }
+    {
+        13 + self.given + self.changes
+    }
+
+    // The i-th change.
+    fn change(&self, i: usize) -> Change
+        requires { i < 300 }
+    {
+        Change::from(self.line.number(13 + self.given + i))
+    }
+
+    // The ten lists before the call, of the lengths that the line says.
+    fn lists(&self) -> Lists<1000> {
+        let line = self.line;
+        Lists {
+            pents: LentList::patterned(line.size(2)),
+            edges: LentList::patterned(line.size(3)),
+            triangles: LentList::patterned(line.size(4)),
+            tets: LentList::patterned(line.size(5)),
+            tri_to_pents_items: LentList::patterned(line.size(6)),
+            tri_to_pents_starts: LentList::patterned(line.size(7)),
+            edge_to_tris_items: LentList::patterned(line.size(8)),
+            edge_to_tris_starts: LentList::patterned(line.size(9)),
+            edge_to_pents_items: LentList::patterned(line.size(10)),
+            edge_to_pents_starts: LentList::patterned(line.size(11)),
+        }
     }
 }
 
@@ -55,7 +80,7 @@ fn print_built(rt: &impl Print, built: std::result::Result<Counts, Refusal>) -> 
             "vertices {} pentachorons {} edges {} triangles {} tets {}",
             counts.vertices, counts.pentachorons, counts.edges, counts.triangles, counts.tets
         ),
-        Err(refusal) => println!(rt; "refused {} {}", refusal.number(), refusal.place()),
+        Err(refusal) => println!(rt; "{refusal}"),
     }
 }
 
@@ -81,6 +106,28 @@ fn print_lists(rt: &impl Print, lists: &Lists<1000>) -> Result<()> {
 
 // ---- checks
 
+// What is set before a check.
+#[derive(Clone, Copy)]
+enum Setting {
+    Count(CountName),
+    Room(ListName),
+    PentEdges,
+    PentTris,
+    Nothing,
+}
+
+// The five counts, the rooms of the ten lists, and the rooms of the outputs.
+impl From<usize> for Setting {
+    fn from(number: usize) -> Setting {
+        match number {
+            0..=4 => CountName::try_from(number).map_or(Setting::Nothing, Setting::Count),
+            15 => Setting::PentEdges,
+            16 => Setting::PentTris,
+            _ => ListName::try_from(number as u64 - 5).map_or(Setting::Nothing, Setting::Room),
+        }
+    }
+}
+
 // What a check is given: a complex, and the rooms of its two outputs.
 #[derive(Clone, Copy)]
 struct Given {
@@ -91,17 +138,14 @@ struct Given {
 }
 
 impl Given {
-    // Sets one of the five counts, of the rooms of the ten lists, or of the rooms of the outputs, by its number.
-    fn set(&mut self, number: usize, n: usize) {
-        match number {
-            0..=4 => self.counts = with_count(self.counts, number, n),
-            15 => self.pent_edges = n,
-            16 => self.pent_tris = n,
-            _ => {
-                if let Ok(name) = ListName::try_from(number as u64 - 5) {
-                    self.lists.set_room(name, n);
-                }
-            }
+    // Sets a count or a room.
+    fn set(&mut self, setting: Setting, n: usize) {
+        match setting {
+            Setting::Count(name) => self.counts = with_count(self.counts, name, n),
+            Setting::Room(name) => self.lists.set_room(name, n),
+            Setting::PentEdges => self.pent_edges = n,
+            Setting::PentTris => self.pent_tris = n,
+            Setting::Nothing => {}
         }
     }
 
@@ -109,8 +153,8 @@ impl Given {
     fn make(&mut self, change: Change) {
         let n = change.n as usize;
         match change.target {
-            Target::Counts => self.set(change.place, n),
-            Target::Further => self.set(change.place, usize::MAX - n),
+            Target::Counts => self.set(Setting::from(change.place), n),
+            Target::Further => self.set(Setting::from(change.place), usize::MAX - n),
             _ => change.make(&mut self.lists),
         }
     }
@@ -133,45 +177,49 @@ fn print_check(rt: &impl Print, given: &Given) -> Result<()> {
 // A check of what a line built, and another after each of its changes.
 fn print_checks(
     rt: &impl Print,
-    line: Line<'_>,
+    settings: &Settings<'_>,
     counts: Counts,
     lists: &Lists<1000>,
 ) -> Result<()> {
-    let vertices = vertices_of(line);
     let mut given = Given {
         counts,
         lists: *lists,
-        pent_edges: 2 * vertices,
-        pent_tris: 2 * vertices,
+        pent_edges: 2 * settings.given,
+        pent_tris: 2 * settings.given,
     };
     print_check(rt, &given)?;
-    for i in 0..changes_of(line) {
-        given.make(Change::from(line.number(13 + vertices + i)));
+    for i in 0..settings.changes {
+        given.make(settings.change(i));
         print_check(rt, &given)?;
     }
     Ok(())
 }
 
+// The answers to a line.
+fn print_answers(rt: &impl Print, settings: &Settings<'_>) -> Result<()> {
+    let mut given = [0; 100];
+    let given = &mut given[..settings.given];
+    settings.line.read(13, given);
+    let mut lists = settings.lists();
+    let built = builder::from_pentachorons(settings.vertices, given, &mut lists.lend_mut());
+    print_built(rt, built)?;
+    print_lists(rt, &lists)?;
+    match built {
+        Ok(counts) => print_checks(rt, settings, counts, &lists),
+        Err(_) => Ok(()),
+    }
+}
+
 // ---- the text
 
-// The answer to the line that starts at `at`, and where the next line starts.
+// The answers to the line that starts at `at`, and where the next line starts.
 fn print_line(rt: &impl Print, text: &[u8], at: usize) -> Result<usize>
     requires { at < length text.now }
     ensures { IfOk result (λ next. at < next) }
 {
-    let line = Line(&text[at..]);
-    let vertices = vertices_of(line);
-    let mut given = [0; 100];
-    let given = &mut given[..vertices];
-    read_list(line.0, 17 * 13, given);
-    let mut lists = lists_of(line);
-    let built = builder::from_pentachorons(line.size(1), given, &mut lists.lend_mut());
-    print_built(rt, built)?;
-    print_lists(rt, &lists)?;
-    if let Ok(counts) = built {
-        print_checks(rt, line, counts, &lists)?;
-    }
-    Ok(at + 17 * (13 + vertices + changes_of(line)))
+    let settings = Settings::from(Line(&text[at..]));
+    print_answers(rt, &settings)?;
+    Ok(at + 17 * settings.line_numbers())
 }
 
 fn main(rt: HostRuntime) -> Result<()> {

@@ -4,13 +4,13 @@
 // oracle/regge made stdin and stdout from the Rust's answers.
 #![tactic(auto)]
 
-ghost use Rattle.std.specs.Prelude.{◌+◌, ◌<◌, ◌≤◌, length, IfOk};
+ghost use Rattle.std.specs.Prelude.{◌+◌, ◌<◌, length, IfOk};
 
-use lorentzian::{Dihedral, HingeType, edge_idx, triangle_area_sq_lorentzian};
-use replay::{Bits, Entry, print_lines, print_row, read_full, read_list};
-use std::fmt;
+use lorentzian::{Dihedral, edge_idx, triangle_area_sq_lorentzian};
+use replay::{Bits, Doubles, Line, print_lines, print_row, read_full};
 use std::fmt::Display;
 use std::io::Result;
+use std::{array, fmt};
 
 // ---- reading
 
@@ -42,13 +42,6 @@ impl Given {
     }
 }
 
-// The i-th number of the line that starts at `at`.
-fn number_at(text: &[u8], at: usize, i: usize) -> f64
-    requires { (at ≤ length text.now) × (i < 11) }
-{
-    f64::from_number(replay::number(text, at + 2 + 17 * i))
-}
-
 // ---- printing
 
 // A dihedral's number, and the letter of its kind.
@@ -57,12 +50,9 @@ struct Shown(Dihedral);
 
 impl Display for Shown {
     fn fmt<W: fmt::Write>(&self, f: &mut fmt::Formatter<W>) -> fmt::Result {
-        let letter = match self.0.kind() {
-            HingeType::Spacelike => "S",
-            HingeType::Timelike => "T",
-        };
         let number = Bits(self.0.value());
-        write!(f, "{number} {letter}")
+        let kind = self.0.kind();
+        write!(f, "{number} {kind}")
     }
 }
 
@@ -70,15 +60,13 @@ impl Display for Shown {
 
 // The 15 cofactors at once, then all 36, row after row.
 fn print_cofactors(rt: &impl Print, s: &[f64; 10]) -> Result<()> {
-    print!(rt; "cofactors")?;
-    print_row(rt, geometry::cm_cofactors(s).iter().map(|c| Bits(*c)))?;
+    println!(rt; "cofactors{}", Doubles(&geometry::cm_cofactors(s)))?;
     let m = geometry::cm_matrix_signed(s);
     for row in 0..6 {
-        print!(rt; "row {row}")?;
-        print_row(
-            rt,
-            (0..6).map(|col| Bits(geometry::cofactor_6x6(&m, row, col).unwrap_or(0.0))),
-        )?;
+        let cofactors: [f64; 6] = array::from_fn(|col| geometry::cofactor_6x6(
+            &m, row, col,
+        ).unwrap_or(0.0));
+        println!(rt; "row {row}{}", Doubles(&cofactors))?;
     }
     Ok(())
 }
@@ -88,10 +76,9 @@ fn print_triangle(rt: &impl Print, s: &[f64; 10], a: usize, b: usize, c: usize) 
     requires { (a < b) × (b < c) × (c < 5) }
 {
     let area = triangle_area_sq_lorentzian(s[edge_idx(a, b)], s[edge_idx(a, c)], s[edge_idx(b, c)]);
-    print!(rt; "triangle {a}{b}{c} {}", Bits(area))?;
     let mut grad = [0.0; 10];
     let _ = lorentzian::tri_area_sq_grad_in_pent(s, [a, b, c], &mut grad);
-    print_row(rt, grad.iter().map(|x| Bits(*x)))
+    println!(rt; "triangle {a}{b}{c} {}{}", Bits(area), Doubles(&grad))
 }
 
 // The ten triangles.
@@ -134,8 +121,7 @@ fn print_dihedrals(rt: &impl Print, s: &[f64; 10]) -> Result<()> {
 fn print_jacobian(rt: &impl Print, s: &[f64; 10], eps: f64) -> Result<()> {
     let derivatives = jacobian::all_lorentzian_dihedrals_jacobian(s, eps);
     for (k, row) in derivatives.chunks_exact(10).enumerate() {
-        print!(rt; "jacobian {k}")?;
-        print_row(rt, row.iter().map(|x| Bits(*x)))?;
+        println!(rt; "jacobian {k}{}", Doubles(row))?;
     }
     Ok(())
 }
@@ -148,36 +134,28 @@ fn print_simplex(rt: &impl Print, s: &[f64; 10], eps: f64) -> Result<()> {
     print_jacobian(rt, s, eps)
 }
 
-// ---- three cofactors
-
-// Their dihedral.
-fn print_compute(rt: &impl Print, c_lm: f64, c_ll: f64, c_mm: f64) -> Result<()> {
-    println!(rt;
-        "compute {}",
-        Shown(lorentzian::compute_dihedral(c_lm, c_ll, c_mm))
-    )
-}
-
 // ---- the text
 
 // The answers to the line that starts at `at`, and where the next line starts.
 fn print_line(rt: &impl Print, text: &[u8], at: usize) -> Result<usize>
-    requires { (at < length text.now) × (length text.now < 0x1_0001) }
+    requires { at < length text.now }
     ensures { IfOk result (λ next. at < next) }
 {
     let given = Given::from(text[at]);
+    let line = Line(text.get(at + 2..).unwrap_or(&[]));
     match given {
         Given::Simplex => {
-            let mut s = [0.0; 10];
-            read_list(text, at + 2, &mut s);
-            print_simplex(rt, &s, number_at(text, at, 10))?;
+            let s = array::from_fn(|i| line.entry(i));
+            print_simplex(rt, &s, line.entry(10))?;
         }
-        Given::Cofactors => print_compute(
-            rt,
-            number_at(text, at, 0),
-            number_at(text, at, 1),
-            number_at(text, at, 2),
-        )?,
+        Given::Cofactors => {
+            let dihedral = lorentzian::compute_dihedral(
+                line.entry(0),
+                line.entry(1),
+                line.entry(2),
+            );
+            println!(rt; "compute {}", Shown(dihedral))?;
+        }
     }
     Ok(at + given.line_len())
 }

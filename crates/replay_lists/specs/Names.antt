@@ -1,8 +1,11 @@
--- The ten lists by their numbers in stored lines. Definitions only.
+-- The ten lists and the five counts by their numbers in stored lines. Definitions only.
 use Rattle.std.specs.Prelude.{ℕ, cond, eqb, Result, Ok, Err}
 use Rattle.replay_lists.specs.declared.names.ListName.{ListName}
 use Rattle.replay_lists.specs.declared.names.ListName.TheVariants.{Pents, Edges, Triangles, Tets, TriToPentsItems, TriToPentsStarts, EdgeToTrisItems, EdgeToTrisStarts, EdgeToPentsItems, EdgeToPentsStarts}
 use Rattle.replay_lists.specs.declared.names.NoList.{NoList}
+use Rattle.replay_lists.specs.declared.names.CountName.{CountName}
+use Rattle.replay_lists.specs.declared.names.CountName.TheVariants as count
+use Rattle.replay_lists.specs.declared.names.NoCount.{NoCount}
 
 -- the list of a number
 unfoldable pub name_of : ℕ → Result ListName NoList
@@ -18,3 +21,13 @@ name_of n =
     (cond (eqb n 8) (Ok EdgeToPentsItems)
     (cond (eqb n 9) (Ok EdgeToPentsStarts)
     (Err (record { 0 = n })))))))))))
+
+-- the count of a number
+unfoldable pub count_name_of : ℕ → Result CountName NoCount
+count_name_of n =
+    cond (eqb n 0) (Ok count.Vertices)
+    (cond (eqb n 1) (Ok count.Pentachorons)
+    (cond (eqb n 2) (Ok count.Edges)
+    (cond (eqb n 3) (Ok count.Triangles)
+    (cond (eqb n 4) (Ok count.Tets)
+    (Err (record { 0 = n }))))))

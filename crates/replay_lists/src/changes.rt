@@ -2,7 +2,7 @@
 ghost use Rattle.std.specs.Prelude.{◌≡◌};
 ghost use Rattle.replay_lists.specs.Changes.{target_of, change_of, with_count, counts_after, lists_after};
 
-use crate::{ListName, Lists};
+use crate::{CountName, ListName, Lists};
 use complex::Counts;
 
 // What a change is made to.
@@ -52,38 +52,40 @@ impl From<u64> for Change {
     }
 }
 
-// The counts with another one at a place.
+// The counts with another one of a name.
 #[tactic(auto, unfolding(crate::specs::Changes::with_count))]
-pub fn with_count(counts: Counts, place: usize, n: usize) -> Counts
-    ensures { result ≡ with_count counts place n }
+pub fn with_count(counts: Counts, name: CountName, n: usize) -> Counts
+    ensures { result ≡ with_count counts name n }
 {
-    match place {
-        0 => Counts {
+    match name {
+        CountName::Vertices => Counts {
             vertices: n,
             ..counts
         },
-        1 => Counts {
+        CountName::Pentachorons => Counts {
             pentachorons: n,
             ..counts
         },
-        2 => Counts { edges: n, ..counts },
-        3 => Counts {
+        CountName::Edges => Counts { edges: n, ..counts },
+        CountName::Triangles => Counts {
             triangles: n,
             ..counts
         },
-        4 => Counts { tets: n, ..counts },
-        _ => counts,
+        CountName::Tets => Counts { tets: n, ..counts },
     }
 }
 
 impl Change {
-    // The counts after it.
-    #[tactic(auto, unfolding(crate::specs::Changes::counts_at))]
+    // The counts after it. A place that no count has changes none.
+    #[tactic(auto, unfolding(crate::specs::Changes::counts_at, crate::specs::Changes::counts_by))]
     pub fn counts(self, before: Counts) -> Counts
         ensures { result ≡ counts_after self before }
     {
         match self.target {
-            Target::Counts => with_count(before, self.place, self.n as usize),
+            Target::Counts => match CountName::try_from(self.place) {
+                Ok(name) => with_count(before, name, self.n as usize),
+                Err(_) => before,
+            },
             _ => before,
         }
     }

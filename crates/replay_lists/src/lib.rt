@@ -12,7 +12,7 @@ ghost use Rattle.replay_lists.specs.Owned.{zeros_of, lent, put_in, with_room, al
 
 pub use changes::{Change, Target, with_count};
 use complex::{AdjacencyList, Complex, Counts, ListsMut};
-pub use names::{ListName, NoList};
+pub use names::{CountName, ListName, NoCount, NoList};
 use replay::{fill_pattern, first, put};
 
 // ---- a list
