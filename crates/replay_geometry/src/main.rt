@@ -89,8 +89,7 @@ fn print_triangle(rt: &impl Print, s: &[f64; 10], a: usize, b: usize, c: usize) 
 {
     let area = triangle_area_sq_lorentzian(s[edge_idx(a, b)], s[edge_idx(a, c)], s[edge_idx(b, c)]);
     print!(rt; "triangle {a}{b}{c} {}", Bits(area))?;
-    let mut grad = [0.0; 10];
-    let _ = lorentzian::tri_area_sq_grad_in_pent(s, [a, b, c], &mut grad);
+    let grad = lorentzian::tri_area_sq_grad_in_pent(s, [a, b, c]).unwrap_or([0.0; 10]);
     print_row(rt, grad.iter().map(|x| Bits(*x)))
 }
 
