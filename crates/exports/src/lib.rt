@@ -20,7 +20,7 @@ ghost use Rattle.complex.specs.Check.{edges_in};
 ghost use Rattle.lattice_edges.specs.Edges.{types_of, lengths_of};
 ghost use Rattle.geometry.specs.CayleyMenger.{cm, cofactors};
 ghost use Rattle.geometry.specs.Answer.{cofactor_answer};
-ghost use Rattle.lorentzian.specs.Triangle.{area_sq, area_sq_grad, grad_outcome, grad_after};
+ghost use Rattle.lorentzian.specs.Triangle.{area_sq, area_sq_grad, grad_answer};
 ghost use Rattle.lorentzian.specs.Dihedral as Dihedral;
 ghost use Rattle.lorentzian.specs.Dihedral.{kind_number_of, value_of, compute_dihedral, dihedral_answer, kind_or};
 ghost use Rattle.jacobian.specs.Jacobian.{all_dihedrals, jacobian};
@@ -159,10 +159,12 @@ pub extern "C" fn cjapthumi_tri_area_sq_grad_in_pent(
     tri: &[usize; 3],
     grad: &mut [f64; 10],
 ) -> u32
-    ensures value { result ≡ number_in (grad_outcome tri.now) }
-    ensures grad_after { grad.new ≡ grad_after s.now tri.now grad.old }
+    ensures value { result ≡ number_in (grad_answer s.now tri.now) }
+    ensures grad_after { grad.new ≡ value_or (grad_answer s.now tri.now) grad.old }
 {
-    number_in(&lorentzian::tri_area_sq_grad_in_pent(s, *tri, grad))
+    let answer = lorentzian::tri_area_sq_grad_in_pent(s, *tri);
+    *grad = answer.unwrap_or(*grad);
+    number_in(&answer)
 }
 
 // The kind is 0 for Spacelike and 1 for Timelike.

@@ -1,8 +1,9 @@
 -- The squared area of a triangle of signed squared lengths, and its gradient, by its own lengths and by a pentachoron's. Definitions only.
-use Rattle.std.specs.Prelude.{ℕ, zero, suc, ◌+◌, ◌-◌, Bool, cond, ◌||◌, List, [], ◌∷◌, ltb, eqb, get_or, set, replicate, Float, Err}
+use Rattle.std.specs.Prelude.{ℕ, zero, suc, ◌+◌, ◌-◌, Bool, cond, ◌||◌, List, [], ◌∷◌, ltb, eqb, get_or, set, replicate, Float, Err, Result}
 use Rattle.std.specs.Float.{nan}
+use Rattle.refusals.specs.declared.Refusal.{Refusal}
 use Rattle.refusals.specs.declared.Refusal.TheVariants.{BadIndex}
-use Rattle.refusals.specs.Refusals.{Outcome, Done}
+use Rattle.refusals.specs.Refusals.{Outcome, Done, answer_by}
 use Rattle.floats.specs.Ops as Ops
 use Rattle.floats.specs.Ops.{◌⊕◌, ◌⊖◌, ◌⊘◌, dbl, two}
 use Rattle.floats.specs.Algebra.{Algebra, doubles}
@@ -63,6 +64,6 @@ grad_in_pent s a b c =
 abbrev pub grad_outcome : List ℕ → Outcome
 grad_outcome tri = cond (no_triangle (get_or tri 0 0) (get_or tri 1 0) (get_or tri 2 0)) (Err BadIndex) Done
 
--- what the lent buffer holds then: what it held, or the derivatives
-abbrev pub grad_after : List Float → List ℕ → List Float → List Float
-grad_after s tri old = cond (no_triangle (get_or tri 0 0) (get_or tri 1 0) (get_or tri 2 0)) old (grad_in_pent s (get_or tri 0 0) (get_or tri 1 0) (get_or tri 2 0))
+-- the derivatives of the squared area of the three of `tri`, where they are a triangle
+abbrev pub grad_answer : List Float → List ℕ → Result (List Float) Refusal
+grad_answer s tri = answer_by (grad_outcome tri) (grad_in_pent s (get_or tri 0 0) (get_or tri 1 0) (get_or tri 2 0))

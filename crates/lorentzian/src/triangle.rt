@@ -1,6 +1,6 @@
 // The squared area of a triangle and its gradient.
 ghost use Rattle.std.specs.Prelude.{◌≡◌, ◌≢◌, false, ◌<◌};
-ghost use Rattle.lorentzian.specs.Triangle.{area_sq, area_sq_grad, edge_of, edge_idx, no_triangle, grad_in_pent, grad_outcome, grad_after};
+ghost use Rattle.lorentzian.specs.Triangle.{area_sq, area_sq_grad, edge_of, edge_idx, no_triangle, grad_in_pent, grad_answer};
 
 use refusals::Refusal;
 
@@ -76,20 +76,14 @@ fn grad_in_pent(s: &[f64; 10], a: usize, b: usize, c: usize) -> [f64; 10]
     grad10
 }
 
-// Writes the gradient of the squared area of a triangle of local vertices by the pentachoron's ten
-// squared lengths. Refused with 11 where a vertex is above 4 or two are the same.
-pub fn tri_area_sq_grad_in_pent(
-    s: &[f64; 10],
-    tri_local: [usize; 3],
-    grad: &mut [f64; 10],
-) -> Result<(), Refusal>
-    ensures value { result ≡ grad_outcome tri_local }
-    ensures grad_after { grad.new ≡ grad_after s.now tri_local grad.old }
+// Gradient of the squared area of a triangle of local vertices by the pentachoron's ten squared lengths. Refused with 11 where a
+// vertex is above 4 or two are the same.
+pub fn tri_area_sq_grad_in_pent(s: &[f64; 10], tri_local: [usize; 3]) -> Result<[f64; 10], Refusal>
+    ensures { result ≡ grad_answer s.now tri_local }
 {
     let [a, b, c] = tri_local;
     if no_triangle(a, b, c) {
         return Err(Refusal::BadIndex);
     }
-    *grad = grad_in_pent(s, a, b, c);
-    Ok(())
+    Ok(grad_in_pent(s, a, b, c))
 }

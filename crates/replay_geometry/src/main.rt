@@ -76,8 +76,7 @@ fn print_triangle(rt: &impl Print, s: &[f64; 10], a: usize, b: usize, c: usize) 
     requires { (a < b) × (b < c) × (c < 5) }
 {
     let area = triangle_area_sq_lorentzian(s[edge_idx(a, b)], s[edge_idx(a, c)], s[edge_idx(b, c)]);
-    let mut grad = [0.0; 10];
-    let _ = lorentzian::tri_area_sq_grad_in_pent(s, [a, b, c], &mut grad);
+    let grad = lorentzian::tri_area_sq_grad_in_pent(s, [a, b, c]).unwrap_or([0.0; 10]);
     println!(rt; "triangle {a}{b}{c} {}{}", Bits(area), Doubles(&grad))
 }
 

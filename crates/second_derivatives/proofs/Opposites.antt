@@ -7,9 +7,10 @@ use mathlib.Core.List.{List, [], ◌∷◌, map}
 use mathlib.Core.Path.{◌≡◌, refl, sym, ap, ◌∙◌}
 use lib.Ieee.{Float, lt}
 use lib.ListN.{get_or}
+use Rattle.std.specs.Prelude.{Ok}
 use Rattle.lists.specs.Lists.{keep, upto, combos, among}
 use Rattle.lists.proofs.Elements.{get_or-map, get_or-table}
-use Rattle.lorentzian.specs.Triangle.{no_triangle, grad_in_pent, grad_after}
+use Rattle.lorentzian.specs.Triangle.{no_triangle, grad_in_pent, grad_answer}
 use Rattle.hinges.specs.Action.{area_sq_of, abs_area, area_limit, factor_of}
 use Rattle.second_derivatives.specs.SecondDerivatives.{left_by, lengths_of, area_slope, row_adds, triangle_adds, slope_row}
 use Rattle.second_derivatives.specs.Parts.{slope_rows}
@@ -51,8 +52,8 @@ module _ (k : ℕ) (h : k < 10) where
   have-edges = three_vertices _ _ _ is-triangle
 
   -- its three vertices are no refusal of the gradient
-  pub gradient-is : (s old : List Float) → grad_after s (get_or vertex_table k []) old ≡ grad_in_pent s (get_or (left_by k) 0 0) (get_or (left_by k) 1 0) (get_or (left_by k) 2 0)
-  gradient-is s old = rw (is-triangle, vertices-are) refl
+  pub gradient-is : (s : List Float) → grad_answer s (get_or vertex_table k []) ≡ Ok (grad_in_pent s (get_or (left_by k) 0 0) (get_or (left_by k) 1 0) (get_or (left_by k) 2 0))
+  gradient-is s = rw (is-triangle, vertices-are) refl
 
 -- ---- what it adds
 

@@ -112,10 +112,8 @@ fn grad_opposite(s: &[f64; 10], k: usize) -> [f64; 10]
     requires { k < 10 }
     ensures { result ≡ grad_in_pent s.now (get_or (left_by k) 0 0) (get_or (left_by k) 1 0) (get_or (left_by k) 2 0) }
 {
-    let mut grad = [0.0; 10];
     // The three vertices are a triangle's, so that nothing is refused.
-    let _ = tri_area_sq_grad_in_pent(s, VERTICES[k], &mut grad);
-    grad
+    tri_area_sq_grad_in_pent(s, VERTICES[k]).unwrap()
 }
 
 // What the triangle opposite the k-th pair adds; an area below 1e-30 is skipped.
