@@ -19,9 +19,9 @@ returns c =
     let P = length ps / 5 in
     let many : length (pentachorons ps) ≡ P = length-rows 5 P ps in
     let pent : (i : ℕ) → i < P → get_or (pentachorons ps) i [] ≡ take 5 (drop (i * 5) ps) =
-        λ i h. let z : 5 * i ≡ i * 5 = omega arith in rows_at 5 P ps i h ∙ ap (λ (m : ℕ). take 5 (drop m ps)) z in
+    λ i h. let z : 5 * i ≡ i * 5 = omega arith in rows_at 5 P ps i h ∙ ap (λ (m : ℕ). take 5 (drop m ps)) z in
     let rise : c.all.result ≡ true → (i : ℕ) → i < P → rises a.n (take 5 (drop (i * 5) ps)) ≡ true =
-        λ e i h. let l : i < c.all.ensures.runs.0.len = search rules in let r = c.all.ensures.runs.0.reads i a.pents l in search (rules, r) in
+    λ e i h. let l : i < c.all.ensures.runs.0.len = search rules in let r = c.all.ensures.runs.0.reads i a.pents l in search (rules, r) in
     let fall : c.all.result ≡ false → (i : ℕ) × (i < P) × (rises a.n (take 5 (drop (i * 5) ps)) ≡ false) = search rules in
     and_is (all_rise a.n) (rises a.n) refl (λ _ _. refl) (pentachorons ps) [] _
     (λ e i h. let l : i < P = omega (arith, many) in rw (pent i l) (rise e i l))
