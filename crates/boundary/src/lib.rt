@@ -7,6 +7,8 @@ ghost use Rattle.boundary.specs.Counts.{counts_of_list, counts_list};
 
 use complex::{AdjacencyList, Complex, Counts};
 
+// Counts are five numbers where C gives and takes them. By functions: this crate may not write a `From` for types of other crates.
+
 // Five numbers as counts.
 pub fn counts_of(c: [usize; 5]) -> Counts
     ensures { result ≡ counts_of_list c }

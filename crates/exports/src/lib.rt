@@ -1,4 +1,6 @@
-// The library's functions for C and Rust to call, on numbers and slices alone.
+// The library's functions for C and Rust to call, on numbers and slices alone. So that C can call them, refusals and kinds are numbers,
+// five numbers are the counts and three those of signs, what a call writes beside its number is lent, and a complex's ten lists are each
+// a parameter: the C interface needs it in every function of this crate's files.
 #![tactic(auto)]
 
 mod local;
@@ -412,7 +414,7 @@ pub extern "C" fn cjapthumi_flat_minkowski_sq_lengths(
     number_in(&outcome)
 }
 
-// Two sizes as a lattice.
+// Two sizes as a lattice. By a function: C passes the sizes apart.
 fn lattice_of(n_t: usize, n_s: usize) -> Lattice
     ensures { result ≡ lattice_of n_t n_s }
 {

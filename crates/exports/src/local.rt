@@ -1,5 +1,5 @@
 // Local deficits, local gradient and local Hessian for C. A refused call returns the refusal's number, whose place is 0, and changes
-// nothing; an answer returns 0. A kind is 0 for Spacelike and 1 for Timelike.
+// nothing; an answer returns 0. A kind is 0 for Spacelike and 1 for Timelike. Each list is a parameter, as the C interface needs it.
 ghost use Rattle.std.specs.Prelude.{length, ◌*◌};
 ghost use Rattle.complex.specs.Builder.{lists};
 ghost use Rattle.hinges.specs.Local.{local_gradient};

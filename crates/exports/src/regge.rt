@@ -1,5 +1,5 @@
 // Hinges, action, gradient and length signs for C. A refused call returns the refusal's number, whose place is 0, and changes
-// nothing; an answer returns 0. A kind is 0 for Spacelike and 1 for Timelike.
+// nothing; an answer returns 0. A kind is 0 for Spacelike and 1 for Timelike. Each list is a parameter, as the C interface needs it.
 ghost use Rattle.std.specs.Prelude.{◌≡◌};
 ghost use Rattle.length_signs.specs.LengthSigns.{signs_of};
 ghost use Rattle.complex.specs.Builder.{lists};
@@ -183,7 +183,7 @@ pub extern "C" fn cjapthumi_length_signs(sq_lengths: &[f64], signs: &mut [usize;
     *signs = signs_list(length_signs(sq_lengths));
 }
 
-// Counts of signs as three numbers.
+// Counts of signs as three numbers, which C takes as a list. By a function: this crate may not write a `From` for types of other crates.
 fn signs_list(signs: LengthSigns) -> [usize; 3]
     ensures { result ≡ signs_list signs }
 {

@@ -1,5 +1,5 @@
 // The retouch for C. A refused call returns the refusal's number, whose place is 0, and changes nothing; an answer returns 0. A kind is
-// 0 for Spacelike and 1 for Timelike.
+// 0 for Spacelike and 1 for Timelike. Each list is a parameter, as the C interface needs it.
 ghost use Rattle.complex.specs.Builder.{lists};
 ghost use Rattle.boundary.specs.Hinges.{checking};
 ghost use Rattle.boundary.specs.Retouching.{TableRetouch};

@@ -1,4 +1,4 @@
-// Local deficits, local gradient and local Hessian of a built complex for C.
+// Local deficits, local gradient and local Hessian of a built complex for C. Each list is a parameter, as the C interface needs it.
 ghost use Rattle.std.specs.Prelude.{length, ◌*◌};
 ghost use Rattle.complex.specs.Builder.{lists};
 ghost use Rattle.hessian.specs.Hessian.{local_hessian};

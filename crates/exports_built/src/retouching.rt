@@ -1,4 +1,4 @@
-// The retouch of a built complex for C.
+// The retouch of a built complex for C. Each list is a parameter, as the C interface needs it.
 ghost use Rattle.complex.specs.Builder.{lists};
 ghost use Rattle.calls.specs.Calls.{BuiltWith};
 ghost use Rattle.boundary.specs.Counts.{counts_of_list};
