@@ -12,7 +12,7 @@ ghost use Rattle.lorentzian_regge.specs.Answers.{short_gradient, Graded};
 
 use calls::{BuiltComplex, check_complex, check_lengths, check_room};
 use complex::Complex;
-use hinges::{add_contributions, tri_sq_lengths, zero_all};
+use hinges::{add_contributions, tri_sq_lengths};
 use incidence::{TriangleNumber, tri_edge_indices};
 use one_pass::write_table;
 use refusals::Refusal;
@@ -57,8 +57,9 @@ pub fn lorentzian_regge_action_grad_built(
         &mut deficits,
         &mut kinds,
     );
-    zero_all(counts.edges, grad);
-    add_all_contributions(built, sq_lengths, &deficits, grad);
+    let entries = &mut grad[..counts.edges];
+    entries.fill(0.0);
+    add_all_contributions(built, sq_lengths, &deficits, entries);
     Ok(())
 }
 

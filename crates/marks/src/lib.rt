@@ -87,6 +87,7 @@ pub fn list_marked(marks: &[bool], list: &mut [u32])
 }
 
 // Whether some number stands twice, all of them below 81,920.
+// By marks, since there may be as many. `repeats` of `complex` compares the five of a pentachoron, which may be of any size.
 #[tactic(auto, unfolding(crate::specs::Marks::marked, complex::specs::Builder::repeats))]
 pub fn stands_twice(numbers: &[u32]) -> bool
     requires { Below numbers.now 81920 }
