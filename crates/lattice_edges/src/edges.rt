@@ -19,7 +19,7 @@ pub enum EdgeType {
 }
 
 impl EdgeType {
-    // The byte that stands for it.
+    // The byte that stands for it. No `From`: the cast is all there is to say.
     pub fn byte(self) -> u8
         ensures { result ≡ type_byte self }
     {

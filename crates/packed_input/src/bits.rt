@@ -1,6 +1,7 @@
 // Numbers spelled by bits. Bit 0 is the most significant of the first byte, and a number's first bit is its most significant.
-ghost use Rattle.std.specs.Prelude.{◌≡◌, ◌+◌, ◌*◌, ◌^◌, ◌<◌, ◌≤◌, length};
+ghost use Rattle.std.specs.Prelude.{◌≡◌, ℕ, ◌+◌, ◌*◌, ◌^◌, ◌<◌, ◌≤◌, length};
 ghost use Rattle.packed_input.specs.Format.{bit_at, field};
+ghost use Rattle.packed_input.specs.Numbers.{ReadsNumbers};
 
 // Bit k.
 fn bit(input: &[u8], k: usize) -> u64
@@ -22,4 +23,22 @@ pub fn number(input: &[u8], at: usize, width: usize) -> u64
         n = 2 * n + bit(input, at + i);
     }
     n
+}
+
+// Each entry of a list is what is made of a number of `width` bits; the numbers follow each other from bit `at` on.
+pub fn read_numbers<T: Copy, F: Fn(u64) -> T>(
+    input: &[u8],
+    at: usize,
+    width: usize,
+    list: &mut [T],
+    entry: F,
+)
+    requires inside { (at + width * length list.old ≤ 8 * length input.now) × (width ≤ 64) }
+    requires few { (at ≤ 0x1_0000) × (length list.old ≤ 640) }
+    requires callable { (n : ℕ) → n < 2 ^ width → F.pre entry n }
+    ensures { ReadsNumbers (F.post entry) input.now at width list.old list.new }
+{
+    for i in 0..list.len() {
+        list[i] = entry(number(input, at + width * i, width));
+    }
 }

@@ -4,7 +4,7 @@ ghost use Rattle.lists.specs.Rows.{over};
 ghost use Rattle.packed_input.specs.Format.{vertex_count, pent_count, vertices_end, vertices, lengths_start, sq_lengths_in};
 ghost use Rattle.packed_input.specs.Decoding.{tail_check_of};
 
-use crate::bits::number;
+use crate::bits::{number, read_numbers};
 use refusals::Refusal;
 
 // ---- the format
@@ -98,10 +98,8 @@ impl<'a> Packed<'a> {
         requires { 5 * self.now.layout.n_pents ≤ length given.old }
         ensures { given.new ≡ over (vertices self.now.bytes.now self.now.layout.n_pents) given.old }
     {
-        let input = self.bytes;
-        for i in 0..5 * self.layout.n_pents {
-            given[i] = number(input, HEADER_BITS + VERTEX_BITS * i, VERTEX_BITS) as u32;
-        }
+        let front = &mut given[..5 * self.layout.n_pents];
+        read_numbers(self.bytes, HEADER_BITS, VERTEX_BITS, front, |n| n as u32);
     }
 
     // BadInput for a bit that is set between vertices and lengths, or lengths that do not end the input exactly.
@@ -125,11 +123,8 @@ impl<'a> Packed<'a> {
         requires { (n_edges ≤ 640) × (lengths_start self.now.layout.n_pents + 8 * n_edges ≤ length self.now.bytes.now) × (n_edges ≤ length sq_lengths.old) }
         ensures { sq_lengths.new ≡ over (sq_lengths_in self.now.bytes.now self.now.layout.n_pents n_edges) sq_lengths.old }
     {
-        let input = self.bytes;
-        let start = 8 * self.layout.lengths_start();
-        for i in 0..n_edges {
-            let at = start + LENGTH_BITS * i;
-            sq_lengths[i] = floats::of_bits(number(input, at, LENGTH_BITS));
-        }
+        let at = 8 * self.layout.lengths_start();
+        let front = &mut sq_lengths[..n_edges];
+        read_numbers(self.bytes, at, LENGTH_BITS, front, |n| floats::of_bits(n));
     }
 }

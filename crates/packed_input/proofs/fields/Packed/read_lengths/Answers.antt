@@ -1,40 +1,22 @@
--- `packed_input::fields::Packed::read_lengths` meets its contract: after i turns the first i lengths are written. Assumes nothing.
-use Prim.Native.Nat.{◌+◌, ◌*◌}
-use mathlib.Core.Path.{◌≡◌, refl, ap, ◌∙◌}
-use native.Mathlib.Numerals.{add-one}
-use native.Mathlib.Omega.{arith}
-use lib.Ieee.{binary64, of_bits}
-use lib.ListN.{set, length-set}
+-- `packed_input::fields::Packed::read_lengths` meets its contract. Assumes nothing.
+use mathlib.Core.Path.{◌≡◌, ap}
+use mathlib.Core.List.{List, ◌++◌, map}
+use lib.Ieee.{Float, binary64, of_bits}
+use lib.ListN.{length, take, drop}
+use lib.Seq.{length-take-le}
+use Rattle.std.proofs.Common.{rules}
 use Rattle.lists.specs.Lists.{upto}
-use Rattle.lists.proofs.Rows.{map-turn, map-done}
-use Rattle.packed_input.specs.Format.{field, lengths_start, sq_length_at, sq_lengths_in}
+use Rattle.lists.proofs.Rows.{map-done}
+use Rattle.packed_input.specs.Format.{sq_length_at, sq_lengths_in}
 use Rattle.packed_input.proofs.fields.Packed.read_lengths.Goals as goal
-
-pub loop-i-init : goal.loop-i-init
-unfolding upto
-loop-i-init c = (omega arith, rw c.lengths_start-start.ensures refl, refl, refl)
-
-pub overflow_add-at : goal.overflow_add-at
-overflow_add-at c = omega arith
-
-pub number-requires : goal.number-requires
-number-requires c = (omega arith, omega arith, omega arith)
-
-pub loop-i-preserved : goal.loop-i-preserved
-loop-i-preserved c =
-    let a = c.args in
-    let l = c.loop-i in
-    let next = map-turn (sq_length_at a.self.now.bytes.now a.self.now.layout.n_pents) a.sq_lengths.now l.sq_lengths l.i (omega arith) l.invariant.2 l.invariant.3 in
-    let n : c.number.result ≡ field a.self.now.bytes.now (8 * lengths_start a.self.now.layout.n_pents + 64 * l.i) 64 = rw l.invariant.1 at c.number.ensures.0 in
-    (omega arith, l.invariant.1, length-set l.sq_lengths _ _ ∙ l.invariant.2, ap (set l.sq_lengths l.i) (c.of_bits.ensures ∙ ap (of_bits binary64) n) ∙ (rw (add-one l.i) next))
-
-pub shape_of-sq_lengths : goal.shape_of-sq_lengths
-shape_of-sq_lengths c = c.loop-i.invariant.2
 
 pub returns : goal.returns
 unfolding sq_lengths_in
 returns c =
-    let a = c.args in
-    let l = c.loop-i in
-    let e : l.i ≡ a.n_edges = omega arith in
-    map-done (sq_length_at a.self.now.bytes.now a.self.now.layout.n_pents) a.sq_lengths.now l.sq_lengths a.n_edges (rw e at l.invariant.3)
+    let old = c.args.sq_lengths.now in
+    let p = c.args.self.now in
+    let n = c.args.n_edges in
+    let long : length (take n old) ≡ n = length-take-le _ _ c.requires.2 in
+    let e : c.read_numbers.new.list ≡ map (sq_length_at p.bytes.now p.layout.n_pents) (upto n) =
+    rw (c.lengths_start-at.ensures, long) at c.read_numbers.ensures (of_bits binary64) (λ k v h. search (rules, h)) in
+    map-done (sq_length_at p.bytes.now p.layout.n_pents) old _ n (ap (λ (xs : List Float). xs ++ drop n old) e)
