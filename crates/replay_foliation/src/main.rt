@@ -9,7 +9,7 @@
 // the list's number as its bits. oracle/foliation made stdin and stdout from the Rust's answers and the table of refusals.
 #![tactic(auto)]
 
-ghost use Rattle.std.specs.Prelude.{◌+◌, ◌<◌, length, IfOk};
+ghost use Rattle.std.specs.Prelude.{◌+◌, ◌<◌, ◌≤◌, length, IfOk};
 ghost use Rattle.std.specs.Iterator.{IsFinite};
 
 use complex::Complex;
@@ -17,6 +17,7 @@ use foliation::Lattice;
 use refusals::number_in;
 use replay::{Bits, Line, fill_pattern, first, print_lines, put, read_full};
 use replay_lists::{Change, LentList, Lists, Target};
+use std::array;
 use std::fmt::Display;
 use std::io::Result;
 
@@ -53,13 +54,39 @@ impl Calls {
     }
 }
 
-// The lattice whose sizes start at the i-th number of a line.
-fn lattice_at(line: Line<'_>, i: usize) -> Lattice
-    requires { i < 8 }
-{
-    Lattice {
-        n_t: line.size(i),
-        n_s: line.size(i + 1),
+// What a line `f` says.
+#[derive(Clone, Copy)]
+struct Settings {
+    // The lattice of the calls.
+    lattice: Lattice,
+    // The lattice whose pentachorons are built, and the vertex count with which they are.
+    built: Lattice,
+    vertices: usize,
+    // The length of the outputs.
+    room: usize,
+    spacing: f64,
+    dt: f64,
+    change: Change,
+    ghost roomy: { room ≤ 2000 },
+}
+
+impl From<Line<'_>> for Settings {
+    fn from(line: Line<'_>) -> Settings {
+        Settings {
+            lattice: Lattice {
+                n_t: line.size(0),
+                n_s: line.size(1),
+            },
+            built: Lattice {
+                n_t: line.size(2),
+                n_s: line.size(3),
+            },
+            vertices: line.size(4),
+            room: line.size(5).min(2000),
+            spacing: line.entry(6),
+            dt: line.entry(7),
+            change: Change::from(line.number(8)),
+        }
     }
 }
 
@@ -77,12 +104,6 @@ fn mixed(sum: u64, n: u64) -> u64 {
 }
 
 impl Summed for u32 {
-    fn added(&self, sum: u64) -> u64 {
-        mixed(sum, u64::from(*self))
-    }
-}
-
-impl Summed for u8 {
     fn added(&self, sum: u64) -> u64 {
         mixed(sum, u64::from(*self))
     }
@@ -119,8 +140,12 @@ fn print_summed<T: Summed + Drop, I: Iterator<Item = T> + Drop>(
 
 // The answer to a line `l`.
 fn print_listing(rt: &impl Print, line: Line<'_>) -> Result<()> {
+    let lattice = Lattice {
+        n_t: line.size(0),
+        n_s: line.size(1),
+    };
     let mut pents = LentList::<50000>::patterned(line.size(2));
-    let listed = foliation::foliated_hypercubic(lattice_at(line, 0), pents.lend_mut());
+    let listed = foliation::foliated_hypercubic(lattice, pents.lend_mut());
     println!(rt; "listed {} {}", number_in(&listed), listed.unwrap_or(77))?;
     print!(rt; "pents")?;
     let pents = pents.lend();
@@ -130,37 +155,38 @@ fn print_listing(rt: &impl Print, line: Line<'_>) -> Result<()> {
 // ---- edges
 
 // The types of a line `f`.
-fn print_edge_types(rt: &impl Print, line: Line<'_>, complex: &Complex<'_>) -> Result<()> {
-    let room = line.size(5).min(2000);
-    let mut types = [0; 2000];
-    let types = &mut types[..room];
-    for (i, edge_type) in types.iter_mut().enumerate() {
-        *edge_type = 100 + (i % 100) as u8;
-    }
-    let outcome = lattice_edges::edge_types(lattice_at(line, 0), complex, types);
+fn print_edge_types(rt: &impl Print, settings: &Settings, complex: &Complex<'_>) -> Result<()> {
+    let mut types: [u8; 2000] = array::from_fn(|i| 100 + (i % 100) as u8);
+    let types = &mut types[..settings.room];
+    let outcome = lattice_edges::edge_types(settings.lattice, complex, types);
     print!(rt; "types {}", number_in(&outcome))?;
-    print_summed(rt, room <= 400, types.iter().copied())
+    let whole = settings.room <= 400;
+    print_summed(
+        rt,
+        whole,
+        types.iter().map(|edge_type| u32::from(*edge_type)),
+    )
 }
 
 // The lengths of a line `f`.
-fn print_sq_lengths(rt: &impl Print, line: Line<'_>, complex: &Complex<'_>) -> Result<()> {
-    let room = line.size(5).min(2000);
+fn print_sq_lengths(rt: &impl Print, settings: &Settings, complex: &Complex<'_>) -> Result<()> {
     let mut lengths = [0.0; 2000];
-    let lengths = &mut lengths[..room];
+    let lengths = &mut lengths[..settings.room];
     fill_pattern(lengths);
     let outcome = lattice_edges::flat_minkowski_sq_lengths(
-        lattice_at(line, 0),
+        settings.lattice,
         complex,
-        line.entry(6),
-        line.entry(7),
+        settings.spacing,
+        settings.dt,
         lengths,
     );
     print!(rt; "lengths {}", number_in(&outcome))?;
-    print_summed(rt, room <= 400, lengths.iter().map(|x| Bits(*x)))
+    let whole = settings.room <= 400;
+    print_summed(rt, whole, lengths.iter().map(|x| Bits(*x)))
 }
 
 // Both answers to a line `f` whose pentachorons are given, if they are built.
-fn print_built(rt: &impl Print, line: Line<'_>, given: &[u32], change: Change) -> Result<()> {
+fn print_built(rt: &impl Print, settings: &Settings, given: &[u32]) -> Result<()> {
     // Not `Lists::zeros()`: a call that answers lists of this size takes their stack four times over.
     let mut lists = Lists::<ROOM> {
         pents: LentList::zeros(ROOM),
@@ -174,26 +200,26 @@ fn print_built(rt: &impl Print, line: Line<'_>, given: &[u32], change: Change) -
         edge_to_pents_items: LentList::zeros(ROOM),
         edge_to_pents_starts: LentList::zeros(ROOM),
     };
-    let built = builder::from_pentachorons(line.size(4), given, &mut lists.lend_mut());
-    change.make(&mut lists);
+    let built = builder::from_pentachorons(settings.vertices, given, &mut lists.lend_mut());
+    settings.change.make(&mut lists);
     if let Ok(counts) = built {
-        let complex = lists.lend(change.counts(counts));
-        print_edge_types(rt, line, &complex)?;
-        print_sq_lengths(rt, line, &complex)?;
+        let complex = lists.lend(settings.change.counts(counts));
+        print_edge_types(rt, settings, &complex)?;
+        print_sq_lengths(rt, settings, &complex)?;
     }
     Ok(())
 }
 
 // Both answers to a line `f`.
-fn print_edges(rt: &impl Print, line: Line<'_>) -> Result<()> {
-    let change = Change::from(line.number(8));
+fn print_edges(rt: &impl Print, settings: &Settings) -> Result<()> {
+    let Change { target, place, n } = settings.change;
     let mut given = [0; ROOM];
-    let listed = foliation::foliated_hypercubic(lattice_at(line, 2), &mut given);
-    if change.target == Target::Further {
-        put(&mut given, change.place, change.n);
+    let listed = foliation::foliated_hypercubic(settings.built, &mut given);
+    if target == Target::Further {
+        put(&mut given, place, n);
     }
     if let Ok(count) = listed {
-        print_built(rt, line, first(&given, 5 * count.min(1944)), change)?;
+        print_built(rt, settings, first(&given, 5 * count.min(1944)))?;
     }
     Ok(())
 }
@@ -209,7 +235,7 @@ fn print_line(rt: &impl Print, text: &[u8], at: usize) -> Result<usize>
     let line = Line(text.get(at + 2..).unwrap_or(&[]));
     match calls {
         Calls::Listing => print_listing(rt, line)?,
-        Calls::Edges => print_edges(rt, line)?,
+        Calls::Edges => print_edges(rt, &Settings::from(line))?,
     }
     Ok(at + calls.line_len())
 }
