@@ -29,13 +29,7 @@ fn dihedral_in<'a>(
     let own = pent_edge_indices(complex, incidence, pent);
     let s = pent_sq_lengths(own, sq_lengths);
     let at = opposite_local_indices(complex, incidence, pent, tri);
-    // The rule in a closure: another crate's function gets no proof here where its name is passed.
-    dihedral_at(
-        &s,
-        at.l,
-        at.m,
-        |c_lm, c_ll, c_mm| compute_dihedral(c_lm, c_ll, c_mm),
-    )
+    dihedral_at(&s, at.l, at.m, compute_dihedral)
 }
 
 // The hinge of a triangle, from all pentachorons in which it lies.

@@ -63,7 +63,7 @@ fn add_all_dihedrals<'a>(
         let own = pent_edge_indices(complex, incidence, pent);
         let tris = pent_tri_indices(complex, incidence, pent);
         let s = pent_sq_lengths(own, sq_lengths);
-        let dihedrals = ten_dihedrals(&s, |c_lm, c_ll, c_mm| compute_dihedral(c_lm, c_ll, c_mm));
+        let dihedrals = ten_dihedrals(&s, compute_dihedral);
         add_ten(tris, dihedrals, sums, kinds);
     }
 }
@@ -81,7 +81,7 @@ fn close_all(sums: &mut [f64], kinds: &mut [u8])
     for k in 0..sums.len() {
         let hinge = closed(kind_in(kinds[k]), sums[k]);
         sums[k] = hinge.deficit;
-        kinds[k] = hinge.kind.number();
+        kinds[k] = byte_of(Some(hinge.kind));
     }
 }
 
