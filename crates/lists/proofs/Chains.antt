@@ -1,16 +1,14 @@
 -- Chains of rows: the walk down a chain finds a row or shows that it is not there, and one row more is entered. Assumes nothing.
 use mathlib.Core.Path.{◌≡◌, refl, sym, ap, ◌∙◌, subst}
 use mathlib.Core.Logic.{⊎_elim}
-use mathlib.Core.Bool.{◌&&◌}
 use mathlib.Core.List.{List, [], ◌∷◌, ◌++◌, map, foldl, foldl-append, map-append, append_assoc, append-nil}
 use Prim.Native.Nat.{ℕ, zero, suc, ◌+◌, ◌*◌, ◌-◌, ◌≤◌, ◌<◌}
 use native.Mathlib.Nat.{add-zero, mul-suc, mul-le-mul_left}
 use native.Mathlib.Numerals.{add-one}
 use native.Mathlib.Omega.{arith}
-use lib.Dec.{eqb}
 use lib.ListN.{length, get_or, take, drop, set, replicate, length-replicate, length-append, length-set, length-map, take-append-drop, get_or-append}
-use lib.Seq.{append_snoc, drop-cons, take-suc, get_or-set_same, get_or-set_other, get_or_at, drop-drop, take_at, drop_at, length-take-le, set_split}
-use Rattle.lists.specs.Keys.{eqs, find, meet, firsts, Distinct}
+use lib.Seq.{append_snoc, take-suc, get_or-set_same, get_or-set_other, get_or_at, drop-drop, take_at, drop_at, length-take-le, set_split}
+use Rattle.lists.specs.Keys.{find, meet, firsts, Distinct}
 use Rattle.lists.specs.Rows.{flat, rows, over}
 use Rattle.lists.specs.Chains.{mix, hash, chain_at, Indexed, Ready, Met}
 use Rattle.lists.proofs.Tests.{lt-or-ge, eq-or-ne}
@@ -35,17 +33,6 @@ head-fits s chain ix e = omega (arith, e, ix.chains, hash-below s)
 pub hash-snoc : (s : List ℕ) (i : ℕ) → i < length s → mix (hash (take i s)) (get_or s i 0) ≡ hash (take (i + 1) s)
 unfolding hash
 hash-snoc s i h = sym (ap (foldl mix 0) (ap (λ (k : ℕ). take k s) (add-one i) ∙ take-suc s i 0 h) ∙ foldl-append mix 0 (take i s) (get_or s i 0 ∷ []))
-
--- ---- a row compared
-
--- one number more of the comparison
-pub eqs-turn : (s l : List ℕ) (at i : ℕ) → i < length s → at + length s ≤ length l
-    → eqs (drop i s) (take (length s - i) (drop (at + i) l)) ≡ (eqb (get_or s i 0) (get_or l (at + i) 0) && eqs (drop (i + 1) s) (take (length s - (i + 1)) (drop (at + (i + 1)) l)))
-unfolding eqs
-eqs-turn s l at i h r =
-    let e : length s - i ≡ suc (length s - (i + 1)) = omega arith in
-    let f : at + (i + 1) ≡ suc (at + i) = omega arith in
-    rw (e, f, drop-cons s i 0 h, drop-cons l (at + i) 0 (omega arith), add-one i) refl
 
 -- ---- the walk down a chain
 

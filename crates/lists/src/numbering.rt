@@ -24,13 +24,7 @@ pub fn same_row(list: &[u32], at: usize, row: &[u32]) -> bool
     requires { at + length row.now ≤ length list.now }
     ensures { result ≡ eqs row.now (take (length row.now) (drop at list.now)) }
 {
-    // A slice's `==` is a call of the library's search for each row, which takes the builder a seventh longer.
-    for (i, v) in row.iter().enumerate() {
-        if *v != list[at + i] {
-            return false;
-        }
-    }
-    true
+    row == &list[at..at + row.len()]
 }
 
 // The number of `row`, which is in this chain, among the first n rows of its width; n where it is not there.
