@@ -1,6 +1,7 @@
 // What the Lorentzian Regge action is made of, by the numbers of triangles and pentachorons: the hinge of one triangle, areas, and
 // what a triangle adds to the gradient. Nothing is refused here: functions ask for what a built complex with as many lengths as edges
-// gives them (`Measured`, or a part of it). NaN and infinities are lawful lengths.
+// gives them (`Measured`, or a part of it). NaN and infinities are lawful lengths. The complex, the numbers of its faces and the lengths
+// are parameters of their own: each function asks for the part that it needs, and a struct with the whole of it would ask for more.
 #![tactic(auto)]
 
 mod area;
@@ -8,11 +9,9 @@ mod contributions;
 mod hinge;
 mod pentachoron;
 mod triangle;
-mod zeros;
 
 pub use area::{abs_area, tri_sq_lengths};
 pub use contributions::{add_contributions, factor_of};
 pub use hinge::{Hinge, byte_of, closed, first, kind_in};
 pub use pentachoron::pent_sq_lengths;
 pub use triangle::hinge_at;
-pub use zeros::zero_all;
