@@ -20,56 +20,75 @@ use hinges::{Hinge, kind_in};
 use incidence::TriangleNumber;
 use lorentzian::HingeType;
 use refusals::number_in;
-use replay::{Bits, Line, fill_pattern, print_lines, print_row, read_full, read_list};
+use replay::{Bits, Doubles, Line, fill_pattern, print_lines, print_row, read_full};
 use replay_lists::{Change, Lists};
-use std::fmt;
 use std::fmt::Display;
 use std::io::Result;
+use std::{array, fmt};
 
 // ---- reading
 
-// How many pentachorons a line has.
-fn pents_of(line: Line<'_>) -> usize
-    ensures { result ≤ 8 }
-{
-    line.size(1).min(8)
+// What a line says before its pentachorons: how many of each kind follow, the lengths of the outputs, and what the calls are given.
+#[derive(Clone, Copy)]
+struct Settings {
+    vertices: usize,
+    pents: usize,
+    lengths: usize,
+    frees: usize,
+    deficits: usize,
+    kinds: usize,
+    grad: usize,
+    local_tris: usize,
+    local_deficits: usize,
+    local_kinds: usize,
+    local_grad: usize,
+    hessian: usize,
+    triangle: TriangleNumber,
+    change: Change,
+    eps: f64,
+    ghost followed: { (pents ≤ 8) × (lengths ≤ 80) × (frees ≤ 12) },
+    ghost roomy: { (deficits ≤ 100) × (kinds ≤ 100) × (grad ≤ 100) },
+    ghost locally_roomy: { (local_tris ≤ 100) × (local_deficits ≤ 100) × (local_kinds ≤ 100) × (local_grad ≤ 100) × (hessian ≤ 100) },
 }
 
-// How many lengths a line has.
-fn lengths_of(line: Line<'_>) -> usize
-    ensures { result ≤ 80 }
-{
-    line.size(2).min(80)
+impl From<Line<'_>> for Settings {
+    fn from(line: Line<'_>) -> Settings {
+        let [
+            frees,
+            local_tris,
+            local_deficits,
+            local_kinds,
+            local_grad,
+            hessian,
+            ..
+        ] = line.number(8).to_le_bytes().map(usize::from);
+        Settings {
+            vertices: line.size(0),
+            pents: line.size(1).min(8),
+            lengths: line.size(2).min(80),
+            frees: frees.min(12),
+            deficits: line.size(3).min(100),
+            kinds: line.size(4).min(100),
+            grad: line.size(5).min(100),
+            local_tris: local_tris.min(100),
+            local_deficits: local_deficits.min(100),
+            local_kinds: local_kinds.min(100),
+            local_grad: local_grad.min(100),
+            hessian: hessian.min(100),
+            triangle: TriangleNumber(line.entry(6)),
+            change: Change::from(line.number(7)),
+            eps: line.entry(9),
+        }
+    }
 }
 
-// How many free edges a line has.
-fn frees_of(line: Line<'_>) -> usize
-    ensures { result ≤ 12 }
-{
-    byte_of(line, 0).min(12)
-}
-
-// The i-th byte, from the lowest, of the number that has a line's sizes for free edges.
-fn byte_of(line: Line<'_>, i: usize) -> usize
-    requires { i < 8 }
-{
-    usize::from(line.number(8).to_le_bytes()[i])
-}
-
-// The length of the i-th output of a line.
-fn room_of(line: Line<'_>, i: usize) -> usize
-    requires { i < 3 }
-    ensures { result ≤ 100 }
-{
-    line.size(3 + i).min(100)
-}
-
-// The length of the i-th output for the free edges of a line.
-fn local_room_of(line: Line<'_>, i: usize) -> usize
-    requires { i < 5 }
-    ensures { result ≤ 100 }
-{
-    byte_of(line, 1 + i).min(100)
+impl Settings {
+    // How many numbers its line has.
+    fn line_numbers(self) -> usize
+        ensures { (0 < result) × (result < 256) }
+    {
+        10 + self.pents + self.lengths + self.frees
+    }
 }
 
 // The vertex at a place of a pentachoron: 12 bits for each of the five.
@@ -87,18 +106,11 @@ struct Letter(Option<HingeType>);
 
 impl Display for Letter {
     fn fmt<W: fmt::Write>(&self, f: &mut fmt::Formatter<W>) -> fmt::Result {
-        let letter = match self.0 {
-            Some(HingeType::Spacelike) => "S",
-            Some(HingeType::Timelike) => "T",
-            None => "-",
-        };
-        write!(f, "{letter}")
+        match self.0 {
+            Some(kind) => write!(f, "{kind}"),
+            None => write!(f, "-"),
+        }
     }
-}
-
-// The rest of a line with doubles.
-fn print_doubles(rt: &impl Print, list: &[f64]) -> Result<()> {
-    print_row(rt, list.iter().map(|x| Bits(*x)))
 }
 
 // A line with kinds.
@@ -111,29 +123,28 @@ fn print_kinds(rt: &impl Print, kinds: &[u8]) -> Result<()> {
 
 // What the calls of a line are given.
 #[derive(Clone, Copy)]
-struct Given<'l, 'c, 'a> {
-    line: Line<'l>,
+struct Given<'c, 'a> {
+    settings: Settings,
     complex: Complex<'c>,
     sq_lengths: &'a [f64],
     free_edges: &'a [u32],
 }
 
-impl Given<'_, '_, '_> {
+impl Given<'_, '_> {
     // The deficits and kinds of all triangles.
     fn print_deficits(&self, rt: &impl Print) -> Result<()> {
         let mut deficits = [0.0; 100];
-        let deficits = &mut deficits[..room_of(self.line, 0)];
+        let deficits = &mut deficits[..self.settings.deficits];
         fill_pattern(deficits);
         let mut kinds = [9; 100];
-        let kinds = &mut kinds[..room_of(self.line, 1)];
+        let kinds = &mut kinds[..self.settings.kinds];
         let outcome = lorentzian_regge::lorentzian_deficit_angles(
             &self.complex,
             self.sq_lengths,
             deficits,
             kinds,
         );
-        print!(rt; "deficits {}", number_in(&outcome))?;
-        print_doubles(rt, deficits)?;
+        println!(rt; "deficits {}{}", number_in(&outcome), Doubles(deficits))?;
         print_kinds(rt, kinds)
     }
 
@@ -142,7 +153,7 @@ impl Given<'_, '_, '_> {
         let answer = lorentzian_regge::lorentzian_deficit_angle(
             &self.complex,
             self.sq_lengths,
-            TriangleNumber(self.line.entry(6)),
+            self.settings.triangle,
         );
         let hinge = answer.unwrap_or(Hinge {
             deficit: floats::of_bits(50000),
@@ -166,36 +177,31 @@ impl Given<'_, '_, '_> {
     // The gradient.
     fn print_grad(&self, rt: &impl Print) -> Result<()> {
         let mut grad = [0.0; 100];
-        let grad = &mut grad[..room_of(self.line, 2)];
+        let grad = &mut grad[..self.settings.grad];
         fill_pattern(grad);
         let outcome = lorentzian_regge::lorentzian_regge_action_grad(
             &self.complex,
             self.sq_lengths,
             grad,
         );
-        print!(rt; "grad {}", number_in(&outcome))?;
-        print_doubles(rt, grad)
+        println!(rt; "grad {}{}", number_in(&outcome), Doubles(grad))
     }
 
     // The signs of the lengths.
     fn print_signs(&self, rt: &impl Print) -> Result<()> {
-        let signs = length_signs::length_signs(self.sq_lengths);
-        println!(rt;
-            "timelike {} null {} spacelike {}",
-            signs.timelike, signs.null, signs.spacelike
-        )
+        println!(rt; "{}", length_signs::length_signs(self.sq_lengths))
     }
 
     // The triangles on free edges with their deficits and kinds.
     fn print_local_deficits(&self, rt: &impl Print) -> Result<()> {
         let mut tris = [0; 100];
-        let tris = &mut tris[..local_room_of(self.line, 0)];
+        let tris = &mut tris[..self.settings.local_tris];
         fill_pattern(tris);
         let mut deficits = [0.0; 100];
-        let deficits = &mut deficits[..local_room_of(self.line, 1)];
+        let deficits = &mut deficits[..self.settings.local_deficits];
         fill_pattern(deficits);
         let mut kinds = [9; 100];
-        let kinds = &mut kinds[..local_room_of(self.line, 2)];
+        let kinds = &mut kinds[..self.settings.local_kinds];
         let answer = local_regge::local_deficit_angles(
             &self.complex,
             self.sq_lengths,
@@ -206,15 +212,14 @@ impl Given<'_, '_, '_> {
         );
         print!(rt; "local {} {}", number_in(&answer), answer.unwrap_or(50000))?;
         print_row(rt, tris.iter())?;
-        print!(rt; "deficits")?;
-        print_doubles(rt, deficits)?;
+        println!(rt; "deficits{}", Doubles(deficits))?;
         print_kinds(rt, kinds)
     }
 
     // The gradient at free edges.
     fn print_local_grad(&self, rt: &impl Print) -> Result<()> {
         let mut grad = [0.0; 100];
-        let grad = &mut grad[..local_room_of(self.line, 3)];
+        let grad = &mut grad[..self.settings.local_grad];
         fill_pattern(grad);
         let outcome = local_regge::local_lorentzian_regge_action_grad(
             &self.complex,
@@ -222,24 +227,22 @@ impl Given<'_, '_, '_> {
             self.free_edges,
             grad,
         );
-        print!(rt; "local grad {}", number_in(&outcome))?;
-        print_doubles(rt, grad)
+        println!(rt; "local grad {}{}", number_in(&outcome), Doubles(grad))
     }
 
     // The Hessian at free edges.
     fn print_hessian(&self, rt: &impl Print) -> Result<()> {
         let mut hessian = [0.0; 100];
-        let hessian = &mut hessian[..local_room_of(self.line, 4)];
+        let hessian = &mut hessian[..self.settings.hessian];
         fill_pattern(hessian);
         let outcome = local_regge::local_lorentzian_regge_hessian(
             &self.complex,
             self.sq_lengths,
             self.free_edges,
-            self.line.entry(9),
+            self.settings.eps,
             hessian,
         );
-        print!(rt; "hessian {}", number_in(&outcome))?;
-        print_doubles(rt, hessian)
+        println!(rt; "hessian {}{}", number_in(&outcome), Doubles(hessian))
     }
 
     // All answers.
@@ -258,34 +261,34 @@ impl Given<'_, '_, '_> {
 // ---- complexes
 
 // All answers to a line, if its complex is built.
-fn print_built(rt: &impl Print, line: Line<'_>) -> Result<()> {
-    let pents = pents_of(line);
-    let lengths = lengths_of(line);
-    let frees = frees_of(line);
-    let mut given = [0; 40];
-    for i in 0..5 * pents {
-        given[i] = vertex(line.number(10 + i / 5), i % 5);
-    }
+fn print_built(rt: &impl Print, line: Line<'_>, settings: Settings) -> Result<()> {
+    let Settings {
+        pents,
+        lengths,
+        frees,
+        change,
+        ..
+    } = settings;
+    let given: [u32; 40] = array::from_fn(|i| vertex(line.number(10 + i / 5), i % 5));
     // The longest room that 8 pentachorons ask for.
     let mut lists = Lists::<240>::zeros();
     let built = builder::from_pentachorons(
-        line.size(0),
+        settings.vertices,
         &given[..5 * pents],
         &mut lists.lend_mut(),
     );
-    let change = Change::from(line.number(7));
     change.make(&mut lists);
     let mut sq_lengths = [0.0; 80];
     let sq_lengths = &mut sq_lengths[..lengths];
-    read_list(line.0, 17 * (10 + pents), sq_lengths);
+    line.read(10 + pents, sq_lengths);
     let mut free_edges = [0; 12];
     let free_edges = &mut free_edges[..frees];
-    read_list(line.0, 17 * (10 + pents + lengths), free_edges);
+    line.read(10 + pents + lengths, free_edges);
     match built {
         Ok(counts) => {
             let complex = lists.lend(change.counts(counts));
             let given = Given {
-                line,
+                settings,
                 complex,
                 sq_lengths,
                 free_edges,
@@ -304,8 +307,9 @@ fn print_line(rt: &impl Print, text: &[u8], at: usize) -> Result<usize>
     ensures { IfOk result (λ next. at < next) }
 {
     let line = Line(&text[at..]);
-    print_built(rt, line)?;
-    Ok(at + 17 * (10 + pents_of(line) + lengths_of(line) + frees_of(line)))
+    let settings = Settings::from(line);
+    print_built(rt, line, settings)?;
+    Ok(at + 17 * settings.line_numbers())
 }
 
 fn main(rt: HostRuntime) -> Result<()> {
