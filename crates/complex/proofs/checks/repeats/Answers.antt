@@ -2,10 +2,8 @@
 use Prim.Native.Nat.{ℕ, ◌+◌, ◌-◌, ◌<◌}
 use mathlib.Core.Path.{◌≡◌, refl, sym, ap, ◌∙◌}
 use mathlib.Core.Bool.{Bool, true, false}
-use native.Mathlib.Omega.{arith}
 use lib.ListN.{length, get_or, take, drop}
 use Rattle.std.proofs.Common.{rules}
-use Rattle.complex.specs.Builder.{repeats}
 use Rattle.lists.specs.Lists.{among}
 use Rattle.lists.proofs.Rows.{part-tail}
 use Rattle.complex.proofs.Offences.{repeats-at, repeats-none}
