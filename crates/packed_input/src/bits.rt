@@ -38,7 +38,7 @@ pub fn read_numbers<T: Copy, F: Fn(u64) -> T>(
     requires callable { (n : ℕ) → n < 2 ^ width → F.pre entry n }
     ensures { ReadsNumbers (F.post entry) input.now at width list.old list.new }
 {
-    for i in 0..list.len() {
-        list[i] = entry(number(input, at + width * i, width));
+    for (i, slot) in list.iter_mut().enumerate() {
+        *slot = entry(number(input, at + width * i, width));
     }
 }

@@ -12,23 +12,21 @@ use Rattle.packed_input.proofs.bits.read_numbers.Goals as goal
 
 pub loop-i-init : goal.loop-i-init
 unfolding upto
-loop-i-init g c = (omega arith, refl, refl, λ h gives. refl)
+loop-i-init g c = (refl, λ h gives. refl)
 
 pub loop-i-preserved : goal.loop-i-preserved
 loop-i-preserved g c =
     let a = c.args in
     let l = c.loop-i in (
-      omega arith,
-      length-set l.list l.i c.entry.result ∙ l.invariant.1,
-      l.invariant.2,
+      length-set l.list l.i c.entry.result ∙ l.invariant.0,
       λ h gives.
           rw (gives _ _ c.entry.ensures, c.number.ensures.0, add-one l.i)
-          (map-turn (entry_in h a.input.now a.at a.width) a.list.now l.list l.i (omega (arith, l.invariant.2)) l.invariant.1 (l.invariant.3 h gives)),
+          (map-turn (entry_in h a.input.now a.at a.width) a.list.now l.list l.i (omega (arith, c.loop-i-test.true, l.auto.i-end)) l.invariant.0 (l.invariant.1 h gives)),
     )
 
 pub returns : goal.returns
 returns g c h gives =
     let a = c.args in
     let l = c.loop-i in
-    let e : l.i ≡ length a.list.now = omega (arith, l.invariant.2) in
-    rw e at l.invariant.3 h gives ∙ rw (drop-length a.list.now, append-nil) refl
+    let e : l.i ≡ length a.list.now = omega (arith, c.loop-i-test.false, l.auto.i-end) in
+    rw e at l.invariant.1 h gives ∙ rw (drop-length a.list.now, append-nil) refl

@@ -1,5 +1,5 @@
 -- `packed_input::bits::read_numbers` meets its contract: after i turns the first i entries are written. Assumes nothing.
-use Prim.Native.Nat.{ℕ, ◌≤◌}
+use Prim.Native.Nat.{ℕ}
 use mathlib.Core.Path.{◌≡◌}
 use mathlib.Core.List.{◌++◌, map}
 use lib.ListN.{length, drop}
@@ -9,5 +9,5 @@ use Rattle.packed_input.proofs.bits.read_numbers.Given as goal
 
 abbrev pub invariant-loop-i : goal.invariant-loop-i
 invariant-loop-i g l =
-    (l.i ≤ l.i-end) × (length l.list ≡ length l.initial.list) × (l.i-end ≡ length l.initial.list)
+    (length l.list ≡ length l.initial.list)
     × ((h : ℕ → g.row.T.Denot) → ((n : ℕ) (v : g.row.T.Denot) → goal.F-post g l.entry n v → v ≡ h n) → l.list ≡ map (entry_in h l.input l.at l.width) (upto l.i) ++ drop l.i l.initial.list)
