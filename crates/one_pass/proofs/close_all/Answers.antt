@@ -23,7 +23,7 @@ loop-k-preserved c =
     let s : get_or l.sums l.k nan ≡ get_or a.sums.now l.k nan = rw l.invariant.0 (read_next (λ t. (f t).deficit) a.sums.now l.k nan) in
     let h : c.closed-hinge.result ≡ f l.k = c.closed-hinge.ensures ∙ rw (c.kind_in.ensures, b, s) refl in (
       rw (h, add-one l.k) (map-turn (λ t. (f t).deficit) a.sums.now l.sums l.k (omega arith) l.auto.sums l.invariant.0),
-      rw (c.number.ensures, h, add-one l.k) (map-turn (λ t. kind_number (f t).kind) a.kinds.now l.kinds l.k (omega arith) l.auto.kinds l.invariant.1),
+      rw (c.byte_of.ensures, h, add-one l.k) (map-turn (λ t. kind_number (f t).kind) a.kinds.now l.kinds l.k (omega arith) l.auto.kinds l.invariant.1),
     )
 
 -- all are written
