@@ -92,8 +92,7 @@ pub fn write_entries<T: Copy, F: Fn(LawfulLattice, u32, u32) -> T>(
     requires callable { F.IsAlwaysCallable entry }
     ensures { WritesEntries (F.post entry) lawful edges.now list.old list.new }
 {
-    // By index: after a loop over `iter_mut` and `zip` a proof knows the length of the list, and no entry.
-    for k in 0..edges.len() / 2 {
-        list[k] = entry(lawful, edges[2 * k], edges[2 * k + 1]);
+    for (k, slot) in list[..edges.len() / 2].iter_mut().enumerate() {
+        *slot = entry(lawful, edges[2 * k], edges[2 * k + 1]);
     }
 }
