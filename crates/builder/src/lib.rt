@@ -11,7 +11,8 @@ use complex::{Counts, ListsMut, check};
 use refusals::Refusal;
 
 // `SimplicialComplex::from_pentachorons`: each pentachoron sorted; edges, triangles and tets numbered by first meeting; adjacency
-// lists as items and starts. A refused call leaves every list as it was; otherwise the places that are not written are kept.
+// lists as items and starts. A refused call leaves every list as it was; otherwise the places that are not written are kept. The
+// vertex count and the list are no struct: C passes them apart.
 pub fn from_pentachorons(
     n_vertices: usize,
     given: &[u32],

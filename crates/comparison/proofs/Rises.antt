@@ -1,7 +1,9 @@
 -- Pentachorons that rise: what the test of their vertices says. Assumes nothing.
-use Prim.Native.Nat.{ℕ, ◌<◌}
-use mathlib.Core.Path.{◌≡◌, refl}
-use mathlib.Core.Bool.{Bool, ◌&&◌}
+use Prim.Native.Nat.{ℕ, zero, suc, ◌<◌}
+use mathlib.Core.Path.{◌≡◌, refl, sym, ap, ◌∙◌}
+use mathlib.Core.Bool.{Bool, true, false, ◌&&◌}
+use Rattle.std.proofs.Common.{true≢false}
+use Rattle.std.specs.List.{IsAllAdjacentAnswer}
 use mathlib.Core.Logic.{⊎_elim}
 use mathlib.Core.List.Memᴰ
 use mathlib.Core.List.{List, [], ◌∷◌, Memᴰ}
@@ -42,6 +44,29 @@ pub rises_five : (n : ℕ) (p : List ℕ) → length p ≡ 5
     ≡ (ltb (get_or p 0 0) (get_or p 1 0) && (ltb (get_or p 1 0) (get_or p 2 0) && (ltb (get_or p 2 0) (get_or p 3 0) && (ltb (get_or p 3 0) (get_or p 4 0) && ltb (get_or p 4 0) n))))
 unfolding rises
 rises_five n p h = rw (five-of p h) refl
+
+-- where each vertex is below the next, the last one decides
+pub adjacent-rise : (n : ℕ) (p : List ℕ) → length p ≡ 5 → IsAllAdjacentAnswer (λ x y b. b ≡ ltb x y) p true → ltb (get_or p 4 0) n ≡ rises n p
+adjacent-rise n p h all =
+    rw (rises_five n p h, ← all 0 0 (omega (arith, h)), ← all 1 0 (omega (arith, h)), ← all 2 0 (omega (arith, h)), ← all 3 0 (omega (arith, h))) refl
+
+and-false : (b : Bool) → (b && false) ≡ false
+and-false true = refl
+and-false false = refl
+
+-- where one is not, they don't rise
+pub adjacent-fall : (n : ℕ) (p : List ℕ) → length p ≡ 5 → (r : Bool) → r ≡ false → IsAllAdjacentAnswer (λ x y b. b ≡ ltb x y) p r → r ≡ rises n p
+adjacent-fall n p h true e some = absurd (true≢false e)
+adjacent-fall n p h false e (zero, l, f) = rw (rises_five n p h, ← f 0) refl
+adjacent-fall n p h false e (suc zero, l, f) = rw (rises_five n p h, ← f 0) (sym (and-false (ltb (get_or p 0 0) (get_or p 1 0))))
+adjacent-fall n p h false e (suc (suc zero), l, f) =
+    let first = ltb (get_or p 0 0) (get_or p 1 0) in
+    rw (rises_five n p h, ← f 0) (sym (ap (λ b. first && b) (and-false (ltb (get_or p 1 0) (get_or p 2 0))) ∙ and-false first))
+adjacent-fall n p h false e (suc (suc (suc zero)), l, f) =
+    let first = ltb (get_or p 0 0) (get_or p 1 0) in
+    let second = ltb (get_or p 1 0) (get_or p 2 0) in
+    rw (rises_five n p h, ← f 0) (sym (ap (λ b. first && (second && b)) (and-false (ltb (get_or p 2 0) (get_or p 3 0))) ∙ ap (λ b. first && b) (and-false second) ∙ and-false first))
+adjacent-fall n p h false e (suc (suc (suc (suc k))), l, f) = absurd (omega (arith, h, l))
 
 -- every pentachoron does
 abbrev pub AllRise : ℕ → List (List ℕ) → Type 0

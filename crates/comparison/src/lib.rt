@@ -18,16 +18,11 @@ use lists::FlatRows;
 use refusals::Refusal;
 
 // Whether the vertices of a pentachoron rise, and the last is below n.
-#[tactic(auto, using(crate::proofs::Rises::rises_five))]
 fn vertices_rise(n: usize, pent: &[u32]) -> bool
     requires { length pent.now ≡ 5 }
     ensures { result ≡ rises n pent.now }
 {
-    pent[0] < pent[1]
-        && pent[1] < pent[2]
-        && pent[2] < pent[3]
-        && pent[3] < pent[4]
-        && (pent[4] as usize) < n
+    pent.is_sorted_by(|a, b| a < b) && (pent[4] as usize) < n
 }
 
 // Whether the vertices of every pentachoron do.
@@ -117,7 +112,8 @@ fn has_adjacency(complex: &Complex<'_>) -> bool
 }
 
 // Whether a complex is built, for a caller with scratch of its own: where it is, the numbers of the edges and triangles of each
-// pentachoron are noted; where it is not, the first ten places for each pentachoron are left free. All other places are kept.
+// pentachoron are noted; where it is not, the first ten places for each pentachoron are left free. All other places are kept. Two lists
+// and no struct: C lends them apart, and a struct of `&mut` would need a clause that each is written where it was lent.
 pub fn is_built_noting(complex: &Complex<'_>, pent_edges: &mut [u32], pent_tris: &mut [u32]) -> bool
     requires { (81920 ≤ length pent_edges.old) × (81920 ≤ length pent_tris.old) }
     ensures value { result ≡ is_built complex.now.counts (lists_of complex.now) }

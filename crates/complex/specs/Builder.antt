@@ -45,7 +45,7 @@ is_short P r =
     || ltb r.edge_to_tris_items (30 * P) || ltb r.edge_to_tris_starts (10 * P + 1)
     || ltb r.edge_to_pents_items (10 * P) || ltb r.edge_to_pents_starts (10 * P + 1)
 
--- the checks, in the table's order: vertex count n, pentachoron list, lengths of the lent lists
+-- the checks, in this order: vertex count n, pentachoron list, lengths of the lent lists
 unfoldable pub check_of : ℕ → List ℕ → Rooms → Outcome
 check_of n given r =
     cond (eqb n 0 || ltb 4096 n) (Err VertexCount)

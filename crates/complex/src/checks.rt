@@ -50,7 +50,7 @@ pub fn too_large(n: usize, numbers: &[u32]) -> bool
     numbers.iter().any(|v| n <= *v as usize)
 }
 
-// Whether v is a vertex of `pent`.
+// Whether v is a vertex of `pent`: the library's method, under the name that clauses and callers cite.
 pub fn has(v: u32, pent: &[u32]) -> bool
     ensures { result ≡ among v pent.now }
 {
@@ -100,7 +100,7 @@ fn is_short(p: usize, rooms: Rooms) -> bool
         || rooms.edge_to_pents_starts < starts
 }
 
-// The builder's checks, in the table's order.
+// The builder's checks: vertex count, list length, room, then the vertices.
 #[tactic(auto, unfolding(crate::specs::Builder::check_of))]
 pub fn check(n_vertices: usize, given: &[u32], rooms: Rooms) -> Result<(), Refusal>
     ensures { result ≡ check_of n_vertices given.now rooms }

@@ -60,7 +60,8 @@ impl Face {
         }
     }
 
-    // The same of a pentachoron in a list.
+    // The same of a pentachoron in a list. A slice and no array of five: the clauses speak of `rows`, and the arrays of `as_chunks` would
+    // need a lemma at each of four loops.
     pub fn rows_of(self, pent: &[u32]) -> [u32; 30]
         requires { length pent.now ≡ 5 }
         ensures faces { rows (width_of self) (count_of self) result ≡ faces_of self pent.now }
@@ -106,8 +107,8 @@ pub struct FaceCounts {
 }
 
 // The faces of all three kinds are numbered, each kind in its own list. `next` links the chains of the search; `pent_edges` and
-// `pent_tris` get the numbers of the edges and of the triangles as they are met. The lists are no `ListsMut`: the check reads no
-// field of a lent struct while another is lent.
+// `pent_tris` get the numbers of the edges and of the triangles as they are met. The lists are no `ListsMut`: the clauses would speak of
+// six lists more, which are kept. The two lists of numbers are no struct: C lends them apart.
 pub fn number_all(
     pents: &[u32],
     edges: &mut [u32],

@@ -20,7 +20,7 @@ const NAN: u64 = 0x7ff8_0000_0000_0000;
 // The weight of the upper word.
 const WORD: u64 = 0x1_0000_0000;
 
-// Rust's x.is_nan().
+// Rust's x.is_nan(): the library's method, under the name that clauses and callers cite.
 pub fn is_nan(x: f64) -> bool
     ensures { result ≡ is_nan x }
 {

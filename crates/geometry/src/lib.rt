@@ -138,7 +138,8 @@ pub fn cm_cofactors(s: &[f64; 10]) -> [f64; 15]
     ensures { result ≡ cofactors doubles s.now }
 {
     let m = cm_matrix_signed(s);
-    // Written out: loops over row and column would count a place by hand beside them.
+    // Written out: loops over row and column would count a place by hand beside them, and a `map` over a table would list the same
+    // fifteen pairs and ask of each that it is in range.
     [
         cofactor_at(&m, 1, 1),
         cofactor_at(&m, 1, 2),

@@ -1,4 +1,6 @@
 // The faces that lie in each other, by their numbers. The lent lists are those of a complex, and `counts` says how far each is read.
+// Each function asks only for what it needs of the lists, so that it serves over another numbering too: a struct with all these facts
+// would ask more of callers.
 #![tactic(auto)]
 
 ghost use Rattle.std.specs.Prelude.{◌≡◌, ℕ, true, List, [], ◌∷◌, ◌+◌, ◌*◌, ◌-◌, ◌≤◌, ◌<◌, length, get_or, take, drop};
@@ -27,7 +29,7 @@ pub struct PentachoronNumber(pub u32);
 pub struct TriangleEdges(pub EdgeNumber, pub EdgeNumber, pub EdgeNumber);
 
 impl TriangleEdges {
-    // The three numbers.
+    // The three numbers. No `From`: a conversion would not say what they are.
     pub fn numbers(&self) -> [u32; 3]
         ensures { result ≡ edge_list self.now }
     {

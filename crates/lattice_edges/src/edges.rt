@@ -19,7 +19,7 @@ pub enum EdgeType {
 }
 
 impl EdgeType {
-    // The byte that stands for it. No `From`: the cast is all there is to say.
+    // The byte that C takes. A method, since `u8::from(kind)` would not say what the number is.
     pub fn byte(self) -> u8
         ensures { result ≡ type_byte self }
     {

@@ -1,5 +1,5 @@
 // Rows met in a list as it is: the same search by chains, but nothing is stored in the list.
-// The list, `head` and `next` stay parameters of their own, eight in all: each is lent by itself, in fixed memory of a caller or of C.
+// `head`, `next`, and `numbers` with `at`, stay parameters of their own, as in the numbering.
 ghost use Rattle.std.specs.Prelude.{[], ◌∷◌, ◌*◌, ◌≤◌, length};
 ghost use Rattle.lists.specs.Lent.{rows_of};
 ghost use Rattle.lists.specs.Chains.{Comparable, Compared};

@@ -1,5 +1,6 @@
 // Rows of one width in a flat list. Each row is in the chain that its hash names, and a chain is walked from its last row.
-// The list, `head` and `next` stay parameters of their own: each is lent by itself, in fixed memory of a caller or of C.
+// `head` and `next` are no struct of two `&mut`: each clause would name its fields, and one clause more would say that each is written
+// where it was lent. `numbers` is lent whole, with `at`: the clauses say that the rest is kept.
 ghost use Rattle.std.specs.Prelude.{◌≡◌, [], ◌∷◌, ◌++◌, ◌+◌, ◌*◌, ◌≤◌, ◌<◌, length, slice_index, slice_set, take, drop};
 ghost use Rattle.lists.specs.Keys.{eqs, find};
 ghost use Rattle.lists.specs.Lent.{rows_of};
@@ -19,7 +20,7 @@ pub fn chain_of(row: &[u32]) -> usize
     h
 }
 
-// Whether the row that starts at `at` is `row`.
+// Whether the row that starts at `at` is `row`: the library's comparison, under the name that clauses and callers cite.
 pub fn same_row(list: &[u32], at: usize, row: &[u32]) -> bool
     requires { at + length row.now ≤ length list.now }
     ensures { result ≡ eqs row.now (take (length row.now) (drop at list.now)) }
@@ -40,7 +41,8 @@ pub fn find_row(
     ensures { result ≡ find row.now (rows (length row.now) n list.now) }
 {
     let w = row.len();
-    // A walk by links and no count: `head` and `next` have 1 + a row, and 0 where a chain ends.
+    // A walk by links and no count: `head` and `next` have 1 + a row, and 0 where a chain ends. No map and no Option: there is no heap,
+    // and zeros are what fixed memory begins with.
     let mut cur = head[chain] as usize;
     while 0 < cur {
         let k = cur - 1;
@@ -52,7 +54,7 @@ pub fn find_row(
     n
 }
 
-// A row is copied to `at`.
+// A row is copied to `at`: the library's method, under the name that clauses and callers cite.
 pub fn copy_row(list: &mut [u32], at: usize, row: &[u32])
     requires { at + length row.now ≤ length list.old }
     ensures { list.new ≡ take at list.old ++ row.now ++ drop (at + length row.now) list.old }

@@ -172,7 +172,7 @@ pub fn ten_dihedrals<R: Fn(f64, f64, f64) -> Dihedral>(s: &[f64; 10], rule: R) -
     ensures { (f : Float → Float → Float → Dihedral) → Gives (R.post rule) f → result ≡ pairs (dihedral_by f s.now) }
 {
     let c = cm_cofactors(s);
-    // Written out: loops over the pairs would count two places by hand.
+    // Written out: loops over the pairs would count two places by hand, and a `map` over a table would list the same ten.
     let c00 = c[0];
     let c11 = c[5];
     let c22 = c[9];

@@ -60,14 +60,7 @@ pub fn mark_pents<'a>(complex: &Complex<'a>, free_edges: &'a [u32], marks: &mut 
 pub fn count_marked(marks: &[bool]) -> usize
     ensures { result ≡ length (marked_below (length marks.now) marks.now) }
 {
-    // A loop and no `filter` with `count`, which takes five times the instructions.
-    let mut count = 0;
-    for mark in marks {
-        if *mark {
-            count += 1;
-        }
-    }
-    count
+    marks.iter().filter(|mark| **mark).count()
 }
 
 // Writes the marked numbers, ascending.

@@ -118,13 +118,18 @@ impl<'a> Packed<'a> {
         Ok(())
     }
 
-    // Writes the squared lengths to the front of a list.
-    pub fn read_lengths(&self, n_edges: usize, sq_lengths: &mut [f64])
-        requires { (n_edges ≤ 640) × (lengths_start self.now.layout.n_pents + 8 * n_edges ≤ length self.now.bytes.now) × (n_edges ≤ length sq_lengths.old) }
-        ensures { sq_lengths.new ≡ over (sq_lengths_in self.now.bytes.now self.now.layout.n_pents n_edges) sq_lengths.old }
+    // Fills a list with the squared lengths.
+    pub fn read_lengths(&self, sq_lengths: &mut [f64])
+        requires { (length sq_lengths.old ≤ 640) × (lengths_start self.now.layout.n_pents + 8 * length sq_lengths.old ≤ length self.now.bytes.now) }
+        ensures { sq_lengths.new ≡ sq_lengths_in self.now.bytes.now self.now.layout.n_pents (length sq_lengths.old) }
     {
         let at = 8 * self.layout.lengths_start();
-        let front = &mut sq_lengths[..n_edges];
-        read_numbers(self.bytes, at, LENGTH_BITS, front, |n| floats::of_bits(n));
+        read_numbers(
+            self.bytes,
+            at,
+            LENGTH_BITS,
+            sq_lengths,
+            |n| floats::of_bits(n),
+        );
     }
 }

@@ -15,7 +15,8 @@ use complex::{AdjacencyList, Complex, Counts, ListsMut};
 use fields::Packed;
 use refusals::Refusal;
 
-// The ten lists of a decoded complex, with room for 64 pentachorons; what is not written is zero.
+// The ten lists of a decoded complex, with room for 64 pentachorons; what is not written is zero. Items and starts stand apart, as in
+// `ListsMut`, to which they are lent.
 #[derive(Clone, Copy)]
 pub struct DecodedLists {
     pub pents: [u32; 320],
@@ -59,7 +60,7 @@ impl DecodedLists {
 }
 
 // A decoded input: the counts of its complex or the refusal, the lists of the complex, and its squared lengths in the order of
-// the edges, of which 640 have room; what is not written is zero.
+// the edges, of which 640 have room; what is not written is zero. No `Result` of it all: the lists are there after a refusal too.
 #[derive(Clone, Copy)]
 pub struct Decoded {
     pub answer: Result<Counts, Refusal>,
@@ -100,7 +101,7 @@ fn decode_parts(
     let packed = Packed::read(input)?;
     let counts = decode_complex(&packed, lists)?;
     packed.check_tail(counts.edges)?;
-    packed.read_lengths(counts.edges, sq_lengths);
+    packed.read_lengths(&mut sq_lengths[..counts.edges]);
     Ok(counts)
 }
 

@@ -1,4 +1,4 @@
-// Bytes read from an input, a double as text, and lines of numbers on standard output. No contract can say what is read or written.
+// Bytes read from an input, a double as text, and lines of values on standard output. No contract can say what is read or written.
 #![tactic(auto)]
 
 ghost use Rattle.std.specs.Prelude.{Some, IfOk};

@@ -60,7 +60,7 @@ impl Refusal {
         }
     }
 
-    // The number of the refused pentachoron, 0 for a refusal that has none.
+    // The number of the refused pentachoron, 0 for a refusal that has none, as C is given it.
     pub fn place(self) -> usize
         ensures { result ≡ place_of self }
     {
@@ -91,7 +91,7 @@ impl fmt::Display for Refusal {
     }
 }
 
-// The number of an answer's refusal, 0 where the call answered.
+// The number of an answer's refusal, 0 where the call answered, as C is given it.
 pub fn number_in<T>(answer: &Result<T, Refusal>) -> u32
     ensures { result ≡ number_in answer.now }
 {
@@ -101,7 +101,7 @@ pub fn number_in<T>(answer: &Result<T, Refusal>) -> u32
     }
 }
 
-// The place of an answer's refusal, 0 where the call answered.
+// The place of an answer's refusal, 0 where the call answered, as C is given it.
 pub fn place_in<T>(answer: &Result<T, Refusal>) -> usize
     ensures { result ≡ place_in answer.now }
 {

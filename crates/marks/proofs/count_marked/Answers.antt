@@ -1,5 +1,5 @@
 -- `marks::count_marked` meets its contract. Assumes nothing.
-use Rattle.std.proofs.Common.{◌∙◌, sym, ap, length, count_by, arith}
+use Rattle.std.proofs.Common.{◌≡◌, ◌∙◌, sym, ap, rules, length, count_by, arith}
 use lib.Seq.{take_all}
 use Rattle.marks.proofs.Marking.{marked-counted}
 use Rattle.marks.proofs.count_marked.Goals as goal
@@ -7,5 +7,5 @@ use Rattle.marks.proofs.count_marked.Goals as goal
 pub returns : goal.returns
 returns c =
     let M = c.args.marks.now in
-    let l = c.loop-mark in
-    l.invariant ∙ ap (count_by (λ m. m)) (take_all l.mark-index M (omega arith) ∙ sym (take_all (length M) M (omega arith))) ∙ sym (marked-counted M (length M) (omega arith))
+    let e : c.count.result ≡ count_by (λ m. m) M = search rules in
+    e ∙ ap (count_by (λ m. m)) (sym (take_all (length M) M (omega arith))) ∙ sym (marked-counted M (length M) (omega arith))
