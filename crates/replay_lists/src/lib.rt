@@ -5,9 +5,11 @@ mod changes;
 mod names;
 
 ghost use Rattle.std.specs.Prelude.{◌≡◌, ◌≤◌, map, length, take};
+ghost use Rattle.std.specs.Borrow.{sem};
 ghost use Rattle.lists.specs.Lists.{upto};
 ghost use Rattle.complex.specs.Lent.{lists_of, lists_in};
 ghost use Rattle.replay.specs.Filled.{word_of, pattern_at};
+ghost use Rattle.replay_lists.specs.Lending.{LendsList};
 ghost use Rattle.replay_lists.specs.Owned.{zeros_of, lent, put_in, with_room, all_of, lent_of, list_of, with_list};
 
 pub use changes::{Change, Target, with_count};
@@ -158,41 +160,37 @@ impl<const N: usize> Lists<N> {
         }
     }
 
-    // Puts a number at a place of a list, where it has that place.
+    // The list of a name, to be written.
     #[tactic(auto, unfolding(crate::specs::Owned::list_of, crate::specs::Owned::with_list))]
-    pub fn put(&mut self, name: ListName, place: usize, n: u32)
-        ensures { self.new ≡ with_list name (put_in (list_of name self.old) place n) self.old }
+    fn list_mut(&mut self, name: ListName) -> &mut LentList<N>
+        ensures* writes_back { sem 𝓛 (LendsList N.row name self.entry result) }
+        ensures value { result.now ≡ list_of name self.old }
     {
         match name {
-            ListName::Pents => self.pents.put(place, n),
-            ListName::Edges => self.edges.put(place, n),
-            ListName::Triangles => self.triangles.put(place, n),
-            ListName::Tets => self.tets.put(place, n),
-            ListName::TriToPentsItems => self.tri_to_pents_items.put(place, n),
-            ListName::TriToPentsStarts => self.tri_to_pents_starts.put(place, n),
-            ListName::EdgeToTrisItems => self.edge_to_tris_items.put(place, n),
-            ListName::EdgeToTrisStarts => self.edge_to_tris_starts.put(place, n),
-            ListName::EdgeToPentsItems => self.edge_to_pents_items.put(place, n),
-            ListName::EdgeToPentsStarts => self.edge_to_pents_starts.put(place, n),
+            ListName::Pents => &mut self.pents,
+            ListName::Edges => &mut self.edges,
+            ListName::Triangles => &mut self.triangles,
+            ListName::Tets => &mut self.tets,
+            ListName::TriToPentsItems => &mut self.tri_to_pents_items,
+            ListName::TriToPentsStarts => &mut self.tri_to_pents_starts,
+            ListName::EdgeToTrisItems => &mut self.edge_to_tris_items,
+            ListName::EdgeToTrisStarts => &mut self.edge_to_tris_starts,
+            ListName::EdgeToPentsItems => &mut self.edge_to_pents_items,
+            ListName::EdgeToPentsStarts => &mut self.edge_to_pents_starts,
         }
     }
 
+    // Puts a number at a place of a list, where it has that place.
+    pub fn put(&mut self, name: ListName, place: usize, n: u32)
+        ensures { self.new ≡ with_list name (put_in (list_of name self.old) place n) self.old }
+    {
+        self.list_mut(name).put(place, n);
+    }
+
     // Gives a list another room.
-    #[tactic(auto, unfolding(crate::specs::Owned::list_of, crate::specs::Owned::with_list))]
     pub fn set_room(&mut self, name: ListName, room: usize)
         ensures { self.new ≡ with_list name (with_room (list_of name self.old) room) self.old }
     {
-        match name {
-            ListName::Pents => self.pents.room = room,
-            ListName::Edges => self.edges.room = room,
-            ListName::Triangles => self.triangles.room = room,
-            ListName::Tets => self.tets.room = room,
-            ListName::TriToPentsItems => self.tri_to_pents_items.room = room,
-            ListName::TriToPentsStarts => self.tri_to_pents_starts.room = room,
-            ListName::EdgeToTrisItems => self.edge_to_tris_items.room = room,
-            ListName::EdgeToTrisStarts => self.edge_to_tris_starts.room = room,
-            ListName::EdgeToPentsItems => self.edge_to_pents_items.room = room,
-            ListName::EdgeToPentsStarts => self.edge_to_pents_starts.room = room,
-        }
+        self.list_mut(name).room = room;
     }
 }

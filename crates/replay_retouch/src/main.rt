@@ -11,71 +11,19 @@
 // answers and the table of refusals.
 #![tactic(auto)]
 
-ghost use Rattle.std.specs.Prelude.{◌<◌, ◌≤◌, length, IfOk};
+ghost use Rattle.std.specs.Prelude.{◌+◌, ◌<◌, ◌≤◌, length, IfOk};
 
 use complex::{Complex, Counts};
 use hinges::{Hinge, kind_in};
 use incidence::EdgeNumber;
 use lorentzian::HingeType;
 use refusals::number_in;
-use replay::{Bits, Line, print_lines, print_row, put, read_full, read_list};
+use replay::{Bits, Doubles, Line, print_lines, print_row, put, read_full};
 use replay_lists::{ListName, Lists};
+use std::array;
 use std::io::Result;
 
 // ---- reading
-
-// How many vertices of pentachorons a line has.
-fn vertices_of(line: Line<'_>) -> usize
-    ensures { result ≤ 40 }
-{
-    line.size(2).min(40)
-}
-
-// How many lengths a line has.
-fn lengths_of(line: Line<'_>) -> usize
-    ensures { result ≤ 80 }
-{
-    line.size(3).min(80)
-}
-
-// How many retouches a line has.
-fn retouches_of(line: Line<'_>) -> usize
-    ensures { result ≤ 12 }
-{
-    line.size(4).min(12)
-}
-
-// How many deficits the table of a line has.
-fn deficits_of(line: Line<'_>) -> usize
-    ensures { result ≤ 100 }
-{
-    line.size(5).min(100)
-}
-
-// How many kinds the table of a line has.
-fn kinds_of(line: Line<'_>) -> usize
-    ensures { result ≤ 100 }
-{
-    line.size(6).min(100)
-}
-
-// Whether a line's table is worked out first.
-fn is_worked_out(line: Line<'_>) -> bool {
-    line.number(7) == 0
-}
-
-// The byte of the kind that a line puts into its table.
-fn kind_byte(line: Line<'_>) -> u8 {
-    (line.number(12) % 256) as u8
-}
-
-// The squared lengths of a line.
-fn sq_lengths_of(line: Line<'_>) -> [f64; 80] {
-    let mut sq_lengths = [0.0; 80];
-    let n = lengths_of(line);
-    read_list(line.0, 17 * (13 + vertices_of(line)), &mut sq_lengths[..n]);
-    sq_lengths
-}
 
 // A new length of an edge.
 #[derive(Clone, Copy)]
@@ -84,46 +32,99 @@ struct Retouch {
     sq_length: f64,
 }
 
-// The i-th retouch of a line.
-fn retouch_of(line: Line<'_>, i: usize) -> Retouch
-    requires { i < 12 }
-{
-    let start = 13 + vertices_of(line) + lengths_of(line) + 2 * i;
-    Retouch {
-        edge: EdgeNumber(line.entry(start)),
-        sq_length: line.entry(start + 1),
+// A line, and what it says before its vertices.
+#[derive(Clone, Copy)]
+struct Settings<'a> {
+    line: Line<'a>,
+    // The vertex count with which the complex is built, and the one of the calls.
+    built_vertices: usize,
+    vertices: usize,
+    // How many vertices of pentachorons, lengths and retouches follow.
+    given: usize,
+    lengths: usize,
+    retouches: usize,
+    // How many deficits and kinds the table has, and whether it is worked out first.
+    deficits: usize,
+    kinds: usize,
+    is_worked_out: bool,
+    // What is put into edge_to_pents_items.
+    item_place: usize,
+    item: u32,
+    // What is put into the table.
+    place: usize,
+    deficit: f64,
+    kind_byte: u8,
+    ghost followed: { (given ≤ 40) × (lengths ≤ 80) × (retouches ≤ 12) },
+    ghost roomy: { (deficits ≤ 100) × (kinds ≤ 100) },
+}
+
+impl<'a> From<Line<'a>> for Settings<'a> {
+    fn from(line: Line<'a>) -> Settings<'a> {
+        Settings {
+            line,
+            built_vertices: line.size(0),
+            vertices: line.size(1),
+            given: line.size(2).min(40),
+            lengths: line.size(3).min(80),
+            retouches: line.size(4).min(12),
+            deficits: line.size(5).min(100),
+            kinds: line.size(6).min(100),
+            is_worked_out: line.number(7) == 0,
+            item_place: line.size(8),
+            item: line.entry(9),
+            place: line.size(10),
+            deficit: line.entry(11),
+            kind_byte: (line.number(12) % 256) as u8,
+        }
     }
 }
 
-// ---- printing
+impl Settings<'_> {
+    // How many numbers the line has.
+    fn line_numbers(&self) -> usize
+        ensures { (0 < result) × (result < 256) }
+    {
+        13 + self.given + self.lengths + 2 * self.retouches
+    }
 
-// A line with a name and doubles.
-fn print_doubles(rt: &impl Print, name: &str, list: &[f64]) -> Result<()> {
-    print!(rt; "{name}")?;
-    print_row(rt, list.iter().map(|x| Bits(*x)))
+    // The squared lengths, and further numbers after them.
+    fn sq_lengths(&self) -> [f64; 80] {
+        array::from_fn(|i| self.line.entry(13 + self.given + i))
+    }
+
+    // The i-th retouch.
+    fn retouch(&self, i: usize) -> Retouch
+        requires { i < 12 }
+    {
+        let start = 13 + self.given + self.lengths + 2 * i;
+        Retouch {
+            edge: EdgeNumber(self.line.entry(start)),
+            sq_length: self.line.entry(start + 1),
+        }
+    }
 }
 
 // ---- calls
 
 // The retouches of a line on plain lists, which are worked out and changed first, and what each leaves.
-fn print_on_lists(rt: &impl Print, line: Line<'_>, complex: &Complex<'_>) -> Result<()> {
-    let mut sq_lengths = sq_lengths_of(line);
-    let sq_lengths = &mut sq_lengths[..lengths_of(line)];
+fn print_on_lists(rt: &impl Print, settings: &Settings<'_>, complex: &Complex<'_>) -> Result<()> {
+    let mut sq_lengths = settings.sq_lengths();
+    let sq_lengths = &mut sq_lengths[..settings.lengths];
     let mut deficits = [floats::of_bits(50000); 100];
-    let deficits = &mut deficits[..deficits_of(line)];
+    let deficits = &mut deficits[..settings.deficits];
     let mut kinds = [100; 100];
-    let kinds = &mut kinds[..kinds_of(line)];
-    if is_worked_out(line) {
+    let kinds = &mut kinds[..settings.kinds];
+    if settings.is_worked_out {
         let _ = lorentzian_regge::lorentzian_deficit_angles(complex, sq_lengths, deficits, kinds);
     }
-    put(deficits, line.size(10), line.entry(11));
-    put(kinds, line.size(10), kind_byte(line));
-    for i in 0..retouches_of(line) {
-        let Retouch { edge, sq_length } = retouch_of(line, i);
+    put(deficits, settings.place, settings.deficit);
+    put(kinds, settings.place, settings.kind_byte);
+    for i in 0..settings.retouches {
+        let Retouch { edge, sq_length } = settings.retouch(i);
         let outcome = retouch::retouch(complex, sq_lengths, edge, sq_length, deficits, kinds);
         println!(rt; "retouch {}", number_in(&outcome))?;
-        print_doubles(rt, "lengths", sq_lengths)?;
-        print_doubles(rt, "deficits", deficits)?;
+        println!(rt; "lengths{}", Doubles(sq_lengths))?;
+        println!(rt; "deficits{}", Doubles(deficits))?;
         print!(rt; "kinds")?;
         print_row(rt, kinds.iter())?;
     }
@@ -131,27 +132,27 @@ fn print_on_lists(rt: &impl Print, line: Line<'_>, complex: &Complex<'_>) -> Res
 }
 
 // The retouches of a line on records, which are worked out and changed first, and what each leaves. A byte that is no kind is Spacelike.
-fn print_on_records(rt: &impl Print, line: Line<'_>, complex: &Complex<'_>) -> Result<()> {
-    let mut sq_lengths = sq_lengths_of(line);
-    let sq_lengths = &mut sq_lengths[..lengths_of(line)];
+fn print_on_records(rt: &impl Print, settings: &Settings<'_>, complex: &Complex<'_>) -> Result<()> {
+    let mut sq_lengths = settings.sq_lengths();
+    let sq_lengths = &mut sq_lengths[..settings.lengths];
     let mut table = [Hinge {
         deficit: floats::of_bits(50000),
         kind: HingeType::Spacelike,
     }; 640];
-    if is_worked_out(line) {
+    if settings.is_worked_out {
         let _ = hinge_table::lorentzian_deficit_angles(complex, sq_lengths, &mut table);
     }
     let record = Hinge {
-        deficit: line.entry(11),
-        kind: kind_in(kind_byte(line)).unwrap_or(HingeType::Spacelike),
+        deficit: settings.deficit,
+        kind: kind_in(settings.kind_byte).unwrap_or(HingeType::Spacelike),
     };
-    put(&mut table, line.size(10), record);
-    for i in 0..retouches_of(line) {
-        let Retouch { edge, sq_length } = retouch_of(line, i);
+    put(&mut table, settings.place, record);
+    for i in 0..settings.retouches {
+        let Retouch { edge, sq_length } = settings.retouch(i);
         let outcome = hinge_table::retouch(complex, sq_lengths, edge, sq_length, &mut table);
-        let shown = &table[..deficits_of(line)];
+        let shown = &table[..settings.deficits];
         println!(rt; "records {}", number_in(&outcome))?;
-        print_doubles(rt, "lengths", sq_lengths)?;
+        println!(rt; "lengths{}", Doubles(sq_lengths))?;
         print!(rt; "deficits")?;
         print_row(rt, shown.iter().map(|record| Bits(record.deficit)))?;
         print!(rt; "kinds")?;
@@ -163,21 +164,25 @@ fn print_on_records(rt: &impl Print, line: Line<'_>, complex: &Complex<'_>) -> R
 // ---- complexes
 
 // The answers to a line, if its complex is built.
-fn print_built(rt: &impl Print, line: Line<'_>) -> Result<()> {
+fn print_built(rt: &impl Print, settings: &Settings<'_>) -> Result<()> {
     let mut given = [0; 40];
-    let given = &mut given[..vertices_of(line)];
-    read_list(line.0, 17 * 13, given);
+    let given = &mut given[..settings.given];
+    settings.line.read(13, given);
     // The longest room that 8 pentachorons ask for.
     let mut lists = Lists::<240>::zeros();
-    let built = builder::from_pentachorons(line.size(0), given, &mut lists.lend_mut());
-    lists.put(ListName::EdgeToPentsItems, line.size(8), line.entry(9));
+    let built = builder::from_pentachorons(settings.built_vertices, given, &mut lists.lend_mut());
+    lists.put(
+        ListName::EdgeToPentsItems,
+        settings.item_place,
+        settings.item,
+    );
     if let Ok(counts) = built {
         let complex = lists.lend(Counts {
-            vertices: line.size(1),
+            vertices: settings.vertices,
             ..counts
         });
-        print_on_lists(rt, line, &complex)?;
-        print_on_records(rt, line, &complex)?;
+        print_on_lists(rt, settings, &complex)?;
+        print_on_records(rt, settings, &complex)?;
     }
     Ok(())
 }
@@ -189,9 +194,9 @@ fn print_line(rt: &impl Print, text: &[u8], at: usize) -> Result<usize>
     requires { at < length text.now }
     ensures { IfOk result (λ next. at < next) }
 {
-    let line = Line(&text[at..]);
-    print_built(rt, line)?;
-    Ok(at + 17 * (13 + vertices_of(line) + lengths_of(line) + 2 * retouches_of(line)))
+    let settings = Settings::from(Line(&text[at..]));
+    print_built(rt, &settings)?;
+    Ok(at + 17 * settings.line_numbers())
 }
 
 fn main(rt: HostRuntime) -> Result<()> {

@@ -55,11 +55,7 @@ pub fn evaluate(input: &[u8]) -> Report
     let decoded = decode(input);
     let mut report = Report {
         answer: decoded.answer,
-        signs: LengthSigns {
-            timelike: 0,
-            null: 0,
-            spacelike: 0,
-        },
+        signs: LengthSigns::default(),
         deficits: [0.0; 640],
         kinds: [0; 640],
         grad: [0.0; 640],

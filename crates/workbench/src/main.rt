@@ -12,31 +12,21 @@ use std::io::Result;
 
 // ---- lines
 
-// The letter of a kind's byte.
-fn letter_of(byte: u8) -> &'static str {
-    match kind_in(byte) {
-        Some(HingeType::Spacelike) => "S",
-        _ => "T",
-    }
-}
-
 // The counts of edges, triangles and tets, and of timelike, null and spacelike lengths.
 fn print_counts(rt: &impl Print, counts: Counts, signs: LengthSigns) -> Result<()> {
     println!(rt;
         "edges {} triangles {} tets {}",
         counts.edges, counts.triangles, counts.tets
     )?;
-    println!(rt;
-        "timelike {} null {} spacelike {}",
-        signs.timelike, signs.null, signs.spacelike
-    )
+    println!(rt; "{signs}")
 }
 
-// The hinges: number, kind and deficit.
+// The hinges: number, kind and deficit. Of a built complex each byte is a kind.
 fn print_hinges(rt: &impl Print, n_tris: usize, report: &Report) -> Result<()> {
     let hinges = report.kinds.iter().zip(report.deficits.iter());
-    for (i, (kind, deficit)) in hinges.take(n_tris).enumerate() {
-        println!(rt; "hinge {i} {} {}", letter_of(*kind), Bits(*deficit))?;
+    for (i, (byte, deficit)) in hinges.take(n_tris).enumerate() {
+        let kind = kind_in(*byte).unwrap_or(HingeType::Timelike);
+        println!(rt; "hinge {i} {kind} {}", Bits(*deficit))?;
     }
     Ok(())
 }
@@ -57,7 +47,7 @@ fn main(rt: HostRuntime) -> Result<()> {
     let len = read_full(rt.stdin(), &mut buffer)?;
     let report = evaluate(&buffer[..len]);
     match report.answer {
-        Err(refusal) => println!(&rt; "refused {} {}", refusal.number(), refusal.place()),
+        Err(refusal) => println!(&rt; "{refusal}"),
         Ok(counts) => {
             print_counts(&rt, counts, report.signs)?;
             print_hinges(&rt, counts.triangles, &report)?;

@@ -1,13 +1,15 @@
 -- `report::evaluate` meets its contract. Assumes nothing.
+use Rattle.std.specs.Prelude.{Err}
 use mathlib.Core.Path.{sym, subst, ◌∙◌}
 use native.Mathlib.Omega.{arith}
 use lib.ListN.{length, replicate, take}
 use Rattle.floats.specs.Ops.{zero}
+use Rattle.length_signs.specs.declared.LengthSigns.{LengthSigns}
 use Rattle.complex.specs.declared.Counts.{Counts}
 use Rattle.complex.specs.Builder.{Lists}
 use Rattle.hinges.specs.Hinges.{faces_in}
 use Rattle.packed_input.proofs.DecodedComplex.{decoded-few, decoded-built, length_decoded}
-use Rattle.report.specs.Report.{Evaluable, Evaluates}
+use Rattle.report.specs.Report.{Evaluable, Evaluates, Reports}
 use Rattle.report.proofs.Reporting.{refused_reports, decodes-to, done_reports}
 use Rattle.report.proofs.evaluate.Goals as goal
 
@@ -24,7 +26,13 @@ evaluate_built-report-requires c =
     (record { built = decoded-built _ _ _ _ d; counted = length_decoded _ _ _ _ d; deficits_room = few.1; kinds_room = few.1; grad_room = few.0 })
 
 pub returns-in-Err : goal.returns-in-Err
-returns-in-Err c = rw c.in-Err.is (refused_reports c.args.input.now _ (sym c.in-Err.is ∙ c.decode-decoded.ensures.answered))
+returns-in-Err c =
+    let e = c.default.ensures in
+    rw c.in-Err.is
+    (subst
+    (λ (s : LengthSigns). Reports c.args.input.now (Err c.in-Err.field-0) s (replicate 640 zero) (replicate 640 0) (replicate 640 zero))
+    (λ i. record { timelike = sym e.0 i; null = sym e.1.0 i; spacelike = sym e.1.1 i })
+    (refused_reports c.args.input.now _ (sym c.in-Err.is ∙ c.decode-decoded.ensures.answered)))
 
 pub returns-in-Ok : goal.returns-in-Ok
 returns-in-Ok c =
