@@ -7,7 +7,8 @@ ghost use Rattle.boundary.specs.Counts.{counts_of_list, counts_list};
 
 use complex::{AdjacencyList, Complex, Counts};
 
-// Counts are five numbers where C gives and takes them. By functions: this crate may not write a `From` for types of other crates.
+// Counts are five numbers where C gives and takes them. By functions: this crate may not write a `From` for types of other crates,
+// and complex knows nothing of C.
 
 // Five numbers as counts.
 pub fn counts_of(c: [usize; 5]) -> Counts

@@ -43,7 +43,8 @@ fn edges_of_triangles(pent_edges: &[u32], pent_tris: &[u32], tri_edges: &mut [u3
     }
 }
 
-// The three adjacency lists, from the numbers of the faces of each pentachoron and how many there are. `tri_edges` gets the numbers of the edges of each triangle.
+// The three adjacency lists, from the numbers of the faces of each pentachoron and how many there are. `tri_edges` gets the numbers of
+// the edges of each triangle.
 pub fn adjacency(
     numbers: &Incidence<'_>,
     faces: FaceCounts,

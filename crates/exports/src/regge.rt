@@ -183,7 +183,8 @@ pub extern "C" fn cjapthumi_length_signs(sq_lengths: &[f64], signs: &mut [usize;
     *signs = signs_list(length_signs(sq_lengths));
 }
 
-// Counts of signs as three numbers, which C takes as a list. By a function: this crate may not write a `From` for types of other crates.
+// Counts of signs as three numbers, which C takes as a list. By a function: this crate may not write a `From` for types of other
+// crates, and length_signs knows nothing of C.
 fn signs_list(signs: LengthSigns) -> [usize; 3]
     ensures { result ≡ signs_list signs }
 {

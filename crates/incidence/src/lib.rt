@@ -24,7 +24,8 @@ pub struct TriangleNumber(pub u32);
 #[derive(Clone, Copy, Debug, PartialEq, Eq, PartialOrd, Ord)]
 pub struct PentachoronNumber(pub u32);
 
-// The edges of a triangle with the vertices 0, 1, 2: 01, 02, 12. Three fields and no array: that there are three, the proofs above know from the type.
+// The edges of a triangle with the vertices 0, 1, 2: 01, 02, 12. Three fields and no array: that there are three, the proofs above know
+// from the type.
 #[derive(Clone, Copy, Debug, PartialEq, Eq)]
 pub struct TriangleEdges(pub EdgeNumber, pub EdgeNumber, pub EdgeNumber);
 

@@ -35,8 +35,8 @@ fn fill<T: Copy, F: Fn(LawfulLattice, u32, u32) -> T>(
     Ok(())
 }
 
-// The type of each edge of a lattice's complex, a byte per edge, as C lends them. A refused call leaves the list as it was; otherwise the places
-// that are not written are kept.
+// The type of each edge of a lattice's complex, a byte per edge, as C lends them. A refused call leaves the list as it was; otherwise
+// the places that are not written are kept.
 pub fn edge_types(lattice: Lattice, complex: &Complex<'_>, types: &mut [u8]) -> Result<(), Refusal>
     ensures { Filled lattice complex.now.counts (lists_of complex.now) (types_of lattice (edges_of complex.now)) types.old result types.new }
 {

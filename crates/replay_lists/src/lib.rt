@@ -20,6 +20,7 @@ use replay::{fill_pattern, first, put};
 // ---- a list
 
 // Fills the first n places of a list with the pattern that they have before a call.
+// A function of its own: with the list cut in `patterned`, the proof of what is lent doesn't close by the search.
 fn fill_first(list: &mut [u32], n: usize)
     requires { n ≤ length list.old }
     ensures len { length list.new ≡ length list.old }
@@ -28,7 +29,7 @@ fn fill_first(list: &mut [u32], n: usize)
     fill_pattern(&mut list[..n]);
 }
 
-// A list of N numbers, of which as many are lent as there is room for, all where that is more.
+// A list of N numbers, of which as many are lent as there is room for, all where that is more: an array, as memory is fixed.
 #[derive(Clone, Copy)]
 pub struct LentList<const N: usize> {
     pub numbers: [u32; N],

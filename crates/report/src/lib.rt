@@ -19,8 +19,8 @@ use refusals::Refusal;
 
 // The counts of the complex or the refusal; the counts of signs; for each triangle its deficit and the byte of its kind, for each
 // edge its gradient entry. What is not written is zero, and all is where the input is refused.
-// Deficits and kinds are two lists, and no list of hinges, since the call that works all triangles out in one pass writes the two
-// lists that C lends; a list of hinges would be written a second time.
+// Deficits and kinds are two lists and no list of hinges: `Reports` speaks of two, as the call writes them that works all triangles out
+// in one pass, for C; `hinge_table` works out each triangle by itself.
 #[derive(Clone, Copy)]
 pub struct Report {
     pub answer: Result<Counts, Refusal>,
