@@ -12,7 +12,7 @@ ghost use Rattle.complex.specs.Lent.{pents_of, edges_of, triangles_of, IsHolding
 ghost use Rattle.marks.specs.Marks.{marked_below};
 ghost use Rattle.hinges.specs.Hinges.{faces_of};
 ghost use Rattle.hinges.specs.Local.{local_triangles, local_pents};
-ghost use Rattle.hinges.specs.Parts.{IsPassable, IsMeasured};
+ghost use Rattle.hinges.specs.Parts.{IsMeasured};
 ghost use Rattle.second_derivatives.specs.Parts.{before};
 ghost use Rattle.second_derivatives.specs.Matrix.{Scattered};
 ghost use Rattle.hessian.specs.Hessian.{local_hessian};
@@ -25,118 +25,113 @@ use incidence::{PentachoronNumber, TriangleNumber, pent_edge_indices, tri_edge_i
 use marks::{mark_pents, mark_tris};
 use second_derivatives::{SquareMatrix, add_first, add_second, places_in};
 
+// ---- what both terms go over
+
+// A built complex with the numbers of its pentachorons' edges and triangles, and a length for each edge. `∥ ∥₁`, since a field holds
+// a bare fact, and to stand in a list is none: an element may stand there twice.
+#[derive(Clone, Copy)]
+struct Measured<'a> {
+    complex: Complex<'a>,
+    incidence: Incidence<'a>,
+    sq_lengths: &'a [f64],
+    ghost measured: { ∥ IsMeasured complex incidence (length sq_lengths.now) ∥₁ },
+}
+
 // ---- the second term
 
 // What a pentachoron adds.
 fn add_pent<'a>(
-    complex: &Complex<'a>,
-    incidence: &Incidence<'a>,
-    sq_lengths: &'a [f64],
+    built: &Measured<'a>,
     free_edges: &'a [u32],
     fd_eps: f64,
     pent: PentachoronNumber,
     matrix: &mut SquareMatrix<'_>,
 )
-    requires { IsPassable complex.now incidence.now (length sq_lengths.now) × (pent.0 < complex.now.counts.pentachorons)
-        × (matrix.old.n ≡ length free_edges.now) }
-    ensures { Scattered ◌⊕◌ (second_at (faces_of complex.now) sq_lengths.now free_edges.now fd_eps pent.0) matrix.old matrix.new }
+    requires { (pent.0 < built.now.complex.counts.pentachorons) × (matrix.old.n ≡ length free_edges.now) }
+    ensures { Scattered ◌⊕◌ (second_at (faces_of built.now.complex) built.now.sq_lengths.now free_edges.now fd_eps pent.0) matrix.old matrix.new }
 {
-    let own = pent_edge_indices(complex, incidence, pent);
-    let s = pent_sq_lengths(own, sq_lengths);
+    let own = pent_edge_indices(&built.complex, &built.incidence, pent);
+    let s = pent_sq_lengths(own, built.sq_lengths);
     let at = places_in(free_edges, own);
     add_second(&at, &s, fd_eps, matrix);
 }
 
-// What all marked pentachorons add, in their order.
+// What all marked pentachorons add, in their order. `add_tris` goes over its marks by a loop of its own: one function for both would
+// take a closure that changes the matrix, and of triangles the diagonal too, with a law of what each of its calls leaves, for three lines.
 fn add_pents<'a>(
-    complex: &Complex<'a>,
-    incidence: &Incidence<'a>,
-    sq_lengths: &'a [f64],
+    built: &Measured<'a>,
     free_edges: &'a [u32],
     marks: &[bool],
     fd_eps: f64,
     matrix: &mut SquareMatrix<'_>,
 )
-    requires { IsPassable complex.now incidence.now (length sq_lengths.now) × (complex.now.counts.pentachorons ≤ length marks.now)
-        × (matrix.old.n ≡ length free_edges.now) }
-    ensures { Scattered ◌⊕◌ (gather (second_at (faces_of complex.now) sq_lengths.now free_edges.now fd_eps) (marked_below complex.now.counts.pentachorons marks.now)) matrix.old matrix.new }
+    requires { (built.now.complex.counts.pentachorons ≤ length marks.now) × (matrix.old.n ≡ length free_edges.now) }
+    ensures { Scattered ◌⊕◌ (gather (second_at (faces_of built.now.complex) built.now.sq_lengths.now free_edges.now fd_eps) (marked_below built.now.complex.counts.pentachorons marks.now)) matrix.old matrix.new }
 {
-    for (p, mark) in marks[..complex.counts.pentachorons].iter().enumerate() {
+    for (p, mark) in marks[..built.complex.counts.pentachorons]
+        .iter()
+        .enumerate()
+    {
         if *mark {
             let pent = PentachoronNumber(p as u32);
-            add_pent(
-                complex, incidence, sq_lengths, free_edges, fd_eps, pent, matrix,
-            );
+            add_pent(built, free_edges, fd_eps, pent, matrix);
         }
     }
 }
 
 // What all pentachorons on free edges add.
 fn add_second_term<'a>(
-    complex: &Complex<'a>,
-    incidence: &Incidence<'a>,
-    sq_lengths: &'a [f64],
+    built: &Measured<'a>,
     free_edges: &'a [u32],
     fd_eps: f64,
     matrix: &mut SquareMatrix<'_>,
 )
-    requires { IsPassable complex.now incidence.now (length sq_lengths.now)
-        × (IsHolding (pents_of complex.now) (edges_of complex.now) complex.now.edge_to_pents)
-        × Below free_edges.now complex.now.counts.edges × (matrix.old.n ≡ length free_edges.now) }
-    ensures { Scattered ◌⊕◌ (gather (second_at (faces_of complex.now) sq_lengths.now free_edges.now fd_eps) (local_pents (faces_of complex.now) free_edges.now)) matrix.old matrix.new }
+    requires { (IsHolding (pents_of built.now.complex) (edges_of built.now.complex) built.now.complex.edge_to_pents)
+        × Below free_edges.now built.now.complex.counts.edges × (matrix.old.n ≡ length free_edges.now) }
+    ensures { Scattered ◌⊕◌ (gather (second_at (faces_of built.now.complex) built.now.sq_lengths.now free_edges.now fd_eps) (local_pents (faces_of built.now.complex) free_edges.now)) matrix.old matrix.new }
 {
     let mut marks = [false; 8192];
-    mark_pents(complex, free_edges, &mut marks);
-    add_pents(
-        complex, incidence, sq_lengths, free_edges, &marks, fd_eps, matrix,
-    );
+    mark_pents(&built.complex, free_edges, &mut marks);
+    add_pents(built, free_edges, &marks, fd_eps, matrix);
 }
 
 // ---- the first term
 
 // What a triangle adds.
 fn add_tri<'a>(
-    complex: &Complex<'a>,
-    incidence: &Incidence<'a>,
-    sq_lengths: &'a [f64],
+    built: &Measured<'a>,
     free_edges: &'a [u32],
     tri: TriangleNumber,
     diagonal: &mut [f64],
     matrix: &mut SquareMatrix<'_>,
 )
-    requires { IsMeasured complex.now incidence.now (length sq_lengths.now)
-        × (tri.0 < complex.now.counts.triangles) × (complex.now.counts.edges ≤ length diagonal.old) × (matrix.old.n ≡ length free_edges.now) }
-    ensures diagonal { diagonal.new ≡ scatter nan ◌⊕◌ (diagonal_at (faces_of complex.now) sq_lengths.now tri.0) diagonal.old }
-    ensures others { Scattered before (first_at (faces_of complex.now) sq_lengths.now free_edges.now tri.0) matrix.old matrix.new }
+    requires { (tri.0 < built.now.complex.counts.triangles) × (built.now.complex.counts.edges ≤ length diagonal.old) × (matrix.old.n ≡ length free_edges.now) }
+    ensures diagonal { diagonal.new ≡ scatter nan ◌⊕◌ (diagonal_at (faces_of built.now.complex) built.now.sq_lengths.now tri.0) diagonal.old }
+    ensures others { Scattered before (first_at (faces_of built.now.complex) built.now.sq_lengths.now free_edges.now tri.0) matrix.old matrix.new }
 {
-    let own = tri_edge_indices(complex, incidence, tri);
-    let hinge = hinge_at(complex, incidence, sq_lengths, tri);
-    let s = tri_sq_lengths(own, sq_lengths);
+    let own = tri_edge_indices(&built.complex, &built.incidence, tri);
+    let hinge = hinge_at(&built.complex, &built.incidence, built.sq_lengths, tri);
+    let s = tri_sq_lengths(own, built.sq_lengths);
     let at = places_in(free_edges, &own.numbers());
     add_first(at, own, s, hinge.deficit, diagonal, matrix);
 }
 
 // What all marked triangles add, in their order.
 fn add_tris<'a>(
-    complex: &Complex<'a>,
-    incidence: &Incidence<'a>,
-    sq_lengths: &'a [f64],
+    built: &Measured<'a>,
     free_edges: &'a [u32],
     marks: &[bool],
     diagonal: &mut [f64],
     matrix: &mut SquareMatrix<'_>,
 )
-    requires { IsMeasured complex.now incidence.now (length sq_lengths.now)
-        × (complex.now.counts.triangles ≤ length marks.now) × (complex.now.counts.edges ≤ length diagonal.old) × (matrix.old.n ≡ length free_edges.now) }
-    ensures diagonal { diagonal.new ≡ scatter nan ◌⊕◌ (gather (diagonal_at (faces_of complex.now) sq_lengths.now) (marked_below complex.now.counts.triangles marks.now)) diagonal.old }
-    ensures others { Scattered before (gather (first_at (faces_of complex.now) sq_lengths.now free_edges.now) (marked_below complex.now.counts.triangles marks.now)) matrix.old matrix.new }
+    requires { (built.now.complex.counts.triangles ≤ length marks.now) × (built.now.complex.counts.edges ≤ length diagonal.old) × (matrix.old.n ≡ length free_edges.now) }
+    ensures diagonal { diagonal.new ≡ scatter nan ◌⊕◌ (gather (diagonal_at (faces_of built.now.complex) built.now.sq_lengths.now) (marked_below built.now.complex.counts.triangles marks.now)) diagonal.old }
+    ensures others { Scattered before (gather (first_at (faces_of built.now.complex) built.now.sq_lengths.now free_edges.now) (marked_below built.now.complex.counts.triangles marks.now)) matrix.old matrix.new }
 {
-    for (t, mark) in marks[..complex.counts.triangles].iter().enumerate() {
+    for (t, mark) in marks[..built.complex.counts.triangles].iter().enumerate() {
         if *mark {
             let tri = TriangleNumber(t as u32);
-            add_tri(
-                complex, incidence, sq_lengths, free_edges, tri, diagonal, matrix,
-            );
+            add_tri(built, free_edges, tri, diagonal, matrix);
         }
     }
 }
@@ -154,32 +149,17 @@ fn put_diagonal(free_edges: &[u32], diagonal: &[f64], matrix: &mut SquareMatrix<
 }
 
 // What all triangles on free edges add, before what the entries hold.
-fn add_first_term<'a>(
-    complex: &Complex<'a>,
-    incidence: &Incidence<'a>,
-    sq_lengths: &'a [f64],
-    free_edges: &'a [u32],
-    matrix: &mut SquareMatrix<'_>,
-)
-    requires { IsMeasured complex.now incidence.now (length sq_lengths.now)
-        × (IsHolding (triangles_of complex.now) (edges_of complex.now) complex.now.edge_to_tris)
-        × Below free_edges.now complex.now.counts.edges × (complex.now.counts.edges ≤ 81920) × (matrix.old.n ≡ length free_edges.now) }
+fn add_first_term<'a>(built: &Measured<'a>, free_edges: &'a [u32], matrix: &mut SquareMatrix<'_>)
+    requires { (IsHolding (triangles_of built.now.complex) (edges_of built.now.complex) built.now.complex.edge_to_tris)
+        × Below free_edges.now built.now.complex.counts.edges × (built.now.complex.counts.edges ≤ 81920) × (matrix.old.n ≡ length free_edges.now) }
     ensures lent { matrix.new.entries.ghost_name ≡ matrix.old.entries.ghost_name }
-    ensures entries { matrix.new.entries.now ≡ scatter nan ahead (diagonal_events free_edges.now (diagonal_of (faces_of complex.now) sq_lengths.now free_edges.now))
-        (scatter nan before (gather (first_at (faces_of complex.now) sq_lengths.now free_edges.now) (local_triangles (faces_of complex.now) free_edges.now)) matrix.old.entries.now) }
+    ensures entries { matrix.new.entries.now ≡ scatter nan ahead (diagonal_events free_edges.now (diagonal_of (faces_of built.now.complex) built.now.sq_lengths.now free_edges.now))
+        (scatter nan before (gather (first_at (faces_of built.now.complex) built.now.sq_lengths.now free_edges.now) (local_triangles (faces_of built.now.complex) free_edges.now)) matrix.old.entries.now) }
 {
     let mut marks = [false; 81920];
     let mut diagonal = [0.0; 81920];
-    mark_tris(complex, free_edges, &mut marks);
-    add_tris(
-        complex,
-        incidence,
-        sq_lengths,
-        free_edges,
-        &marks,
-        &mut diagonal,
-        matrix,
-    );
+    mark_tris(&built.complex, free_edges, &mut marks);
+    add_tris(built, free_edges, &marks, &mut diagonal, matrix);
     put_diagonal(free_edges, &diagonal, matrix);
 }
 
@@ -200,11 +180,14 @@ pub fn write_hessian<'a>(
         × Below free_edges.now complex.now.counts.edges × Once free_edges.now × (complex.now.counts.edges ≤ 81920) × (length free_edges.now ≤ 81920) × (length free_edges.now * length free_edges.now ≤ length matrix.old) }
     ensures { matrix.new ≡ over (local_hessian (faces_of complex.now) sq_lengths.now free_edges.now fd_eps) matrix.old }
 {
+    let built = Measured {
+        complex: *complex,
+        incidence: *incidence,
+        sq_lengths,
+    };
     let n = free_edges.len();
     matrix[..n * n].fill(0.0);
     let mut lent = SquareMatrix { n, entries: matrix };
-    add_second_term(
-        complex, incidence, sq_lengths, free_edges, fd_eps, &mut lent,
-    );
-    add_first_term(complex, incidence, sq_lengths, free_edges, &mut lent);
+    add_second_term(&built, free_edges, fd_eps, &mut lent);
+    add_first_term(&built, free_edges, &mut lent);
 }

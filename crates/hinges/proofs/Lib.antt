@@ -6,3 +6,4 @@ pub mod OnePass
 pub mod LocalEntries
 pub mod HingeKinds
 pub mod Skipped
+pub mod Zipped

@@ -29,7 +29,6 @@ fn contribution_of(s: [f64; 3], area: f64, deficit: f64) -> [f64; 3]
 }
 
 // The entries of a triangle's edges with what the triangle adds; an area below 1e-30 is skipped.
-#[tactic(auto, unfolding(lists::specs::Lists::upto, lists::specs::Loops::scatter))]
 pub fn add_contributions(edges: TriangleEdges, s: [f64; 3], deficit: f64, grad: &mut [f64])
     requires { Below (edge_list edges) (length grad.old) }
     ensures { grad.new ≡ scatter nan ◌⊕◌ (contributions_of (edge_list edges) s deficit) grad.old }
@@ -39,7 +38,7 @@ pub fn add_contributions(edges: TriangleEdges, s: [f64; 3], deficit: f64, grad: 
         return;
     }
     let added = contribution_of(s, area, deficit);
-    for (k, edge) in edges.numbers().iter().enumerate() {
-        grad[*edge as usize] += added[k];
+    for (edge, x) in edges.numbers().iter().zip(added.iter()) {
+        grad[*edge as usize] += *x;
     }
 }

@@ -14,7 +14,7 @@ pub struct Hinge {
 }
 
 // The byte of a kind in a list of kinds: the kind's number, or 2 where there is none yet.
-// Bytes and no options: the list is lent over the C interface.
+// Bytes and no options: the list is lent over the C interface. A function, as `kind_in` is: `From` is not ours to write for u8 and Option.
 pub fn byte_of(kind: Option<HingeType>) -> u8
     ensures { result ≡ byte_of kind }
 {

@@ -1,7 +1,8 @@
 // What the Lorentzian Regge action is made of, by the numbers of triangles and pentachorons: the hinge of one triangle, areas, and
 // what a triangle adds to the gradient. Nothing is refused here: functions ask for what a built complex with as many lengths as edges
 // gives them (`Measured`, or a part of it). NaN and infinities are lawful lengths. The complex, the numbers of its faces and the lengths
-// are parameters of their own: each function asks for the part that it needs, and a struct with the whole of it would ask for more.
+// are parameters of their own: `hinge_at` asks for all of `Measured`, a pass over the pentachorons for no more than `Passable`, and one
+// struct for both would ask more of those who call for the pass.
 #![tactic(auto)]
 
 mod area;

@@ -1,2 +1,3 @@
 -- Laws on the pass.
 pub mod PassSteps
+pub mod BothEnds

@@ -33,14 +33,13 @@ fn add_dihedral(tri: TriangleNumber, dihedral: Dihedral, sums: &mut [f64], kinds
 }
 
 // The ten dihedrals of a pentachoron, each at the triangle that its pair of vertices leaves.
-#[tactic(auto, unfolding(lists::specs::Lists::upto, lists::specs::Loops::scatter))]
 fn add_ten(tris: &[u32], dihedrals: [Dihedral; 10], sums: &mut [f64], kinds: &mut [u8])
     requires { (length tris.now ≡ 10) × Below tris.now (length sums.old) × Below tris.now (length kinds.old) }
     ensures { (sums.new ≡ scatter nan plus (ten_events tris.now dihedrals) sums.old)
         × (kinds.new ≡ scatter 0 byte_of_first (ten_events tris.now dihedrals) kinds.old) }
 {
-    for (k, dihedral) in dihedrals.iter().enumerate() {
-        add_dihedral(TriangleNumber(tris[9 - k]), *dihedral, sums, kinds);
+    for (tri, dihedral) in tris.iter().rev().zip(dihedrals.iter()) {
+        add_dihedral(TriangleNumber(*tri), *dihedral, sums, kinds);
     }
 }
 

@@ -43,98 +43,76 @@ const VERTICES: [[usize; 3]; 10] = [
 
 // ---- the second term
 
-// The row of the e-th edge, by the derivative of an area and those of the k-th dihedral.
-fn add_row(
-    at: &[usize; 10],
-    jacobian: &[f64; 100],
+// The k-th pair of a pentachoron's vertices, with the places of its ten edges and the derivatives of its ten dihedrals.
+#[derive(Clone, Copy)]
+struct Pair<'p> {
     k: usize,
-    e: usize,
-    slope: f64,
-    matrix: &mut SquareMatrix<'_>,
-)
-    requires { (k < 10) × (e < 10) }
-    ensures { Scattered ◌⊕◌ (placed matrix.old.n at.now (row_of slope jacobian.now k e)) matrix.old matrix.new }
+    at: &'p [usize; 10],
+    jacobian: &'p [f64; 100],
+    ghost below: { k < 10 },
+}
+
+// The row of the e-th edge, by the derivative of an area and those of the pair's dihedral.
+fn add_row(pair: &Pair<'_>, e: usize, slope: f64, matrix: &mut SquareMatrix<'_>)
+    requires { e < 10 }
+    ensures { Scattered ◌⊕◌ (placed matrix.old.n pair.now.at.now (row_of slope pair.now.jacobian.now pair.now.k e)) matrix.old matrix.new }
 {
-    for (f, col) in at.iter().enumerate() {
-        matrix.add(at[e], *col, slope * -jacobian[10 * k + f]);
+    for (f, col) in pair.at.iter().enumerate() {
+        matrix.add(pair.at[e], *col, slope * -pair.jacobian[10 * pair.k + f]);
     }
 }
 
 // The same for a free edge and a derivative that is not below 1e-30.
-fn add_slope(
-    at: &[usize; 10],
-    jacobian: &[f64; 100],
-    k: usize,
-    e: usize,
-    slope: f64,
-    matrix: &mut SquareMatrix<'_>,
-)
-    requires { (k < 10) × (e < 10) }
-    ensures { Scattered ◌⊕◌ (placed matrix.old.n at.now (slope_row slope jacobian.now k e)) matrix.old matrix.new }
+fn add_slope(pair: &Pair<'_>, e: usize, slope: f64, matrix: &mut SquareMatrix<'_>)
+    requires { e < 10 }
+    ensures { Scattered ◌⊕◌ (placed matrix.old.n pair.now.at.now (slope_row slope pair.now.jacobian.now pair.now.k e)) matrix.old matrix.new }
 {
-    if at[e] >= matrix.n {
+    if pair.at[e] >= matrix.n {
         return;
     }
     if abs(slope) < 1e-30 {
         return;
     }
-    add_row(at, jacobian, k, e, slope, matrix);
+    add_row(pair, e, slope, matrix);
 }
 
 // The rows of all ten edges, by an area's factor and the derivatives of its square.
-fn add_slopes(
-    at: &[usize; 10],
-    jacobian: &[f64; 100],
-    k: usize,
-    factor: f64,
-    grad: &[f64; 10],
-    matrix: &mut SquareMatrix<'_>,
-)
-    requires { k < 10 }
-    ensures { Scattered ◌⊕◌ (placed matrix.old.n at.now (slope_rows factor grad.now jacobian.now k)) matrix.old matrix.new }
+fn add_slopes(pair: &Pair<'_>, factor: f64, grad: &[f64; 10], matrix: &mut SquareMatrix<'_>)
+    ensures { Scattered ◌⊕◌ (placed matrix.old.n pair.now.at.now (slope_rows factor grad.now pair.now.jacobian.now pair.now.k)) matrix.old matrix.new }
 {
     for (e, part) in grad.iter().enumerate() {
-        add_slope(at, jacobian, k, e, factor * *part, matrix);
+        add_slope(pair, e, factor * *part, matrix);
     }
 }
 
-// The squared lengths of the triangle opposite the k-th pair.
-fn lengths_opposite(s: &[f64; 10], k: usize) -> [f64; 3]
-    requires { k < 10 }
-    ensures { result ≡ lengths_of s.now (left_by k) }
+// The squared lengths of the triangle opposite a pair.
+fn lengths_opposite(s: &[f64; 10], pair: &Pair<'_>) -> [f64; 3]
+    ensures { result ≡ lengths_of s.now (left_by pair.now.k) }
 {
-    let [a, b, c] = VERTICES[k];
+    let [a, b, c] = VERTICES[pair.k];
     [s[edge_idx(a, b)], s[edge_idx(a, c)], s[edge_idx(b, c)]]
 }
 
 // The derivatives of its squared area by the ten squared lengths.
-fn grad_opposite(s: &[f64; 10], k: usize) -> [f64; 10]
-    requires { k < 10 }
-    ensures { result ≡ grad_in_pent s.now (get_or (left_by k) 0 0) (get_or (left_by k) 1 0) (get_or (left_by k) 2 0) }
+fn grad_opposite(s: &[f64; 10], pair: &Pair<'_>) -> [f64; 10]
+    ensures { result ≡ grad_in_pent s.now (get_or (left_by pair.now.k) 0 0) (get_or (left_by pair.now.k) 1 0) (get_or (left_by pair.now.k) 2 0) }
 {
     // The three vertices are a triangle's, so that nothing is refused.
-    tri_area_sq_grad_in_pent(s, VERTICES[k]).unwrap()
+    tri_area_sq_grad_in_pent(s, VERTICES[pair.k]).unwrap()
 }
 
-// What the triangle opposite the k-th pair adds; an area below 1e-30 is skipped.
-fn add_opposite(
-    at: &[usize; 10],
-    s: &[f64; 10],
-    jacobian: &[f64; 100],
-    k: usize,
-    matrix: &mut SquareMatrix<'_>,
-)
-    requires { k < 10 }
-    ensures { Scattered ◌⊕◌ (placed matrix.old.n at.now (triangle_adds s.now jacobian.now k)) matrix.old matrix.new }
+// What the triangle opposite a pair adds; an area below 1e-30 is skipped.
+fn add_opposite(pair: &Pair<'_>, s: &[f64; 10], matrix: &mut SquareMatrix<'_>)
+    ensures { Scattered ◌⊕◌ (placed matrix.old.n pair.now.at.now (triangle_adds s.now pair.now.jacobian.now pair.now.k)) matrix.old matrix.new }
 {
-    let own = lengths_opposite(s, k);
+    let own = lengths_opposite(s, pair);
     let area = abs_area(own);
     if area < 1e-30 {
         return;
     }
     let factor = factor_of(triangle_area_sq_lorentzian(own[0], own[1], own[2]), area);
-    let grad = grad_opposite(s, k);
-    add_slopes(at, jacobian, k, factor, &grad, matrix);
+    let grad = grad_opposite(s, pair);
+    add_slopes(pair, factor, &grad, matrix);
 }
 
 // What a pentachoron of ten squared lengths adds.
@@ -143,7 +121,12 @@ pub fn add_second(at: &[usize; 10], s: &[f64; 10], fd_eps: f64, matrix: &mut Squ
 {
     let jacobian = all_lorentzian_dihedrals_jacobian(s, fd_eps);
     for k in 0..10 {
-        add_opposite(at, s, &jacobian, k, matrix);
+        let pair = Pair {
+            k,
+            at,
+            jacobian: &jacobian,
+        };
+        add_opposite(&pair, s, matrix);
     }
 }
 
@@ -166,7 +149,8 @@ fn area_second(s: [f64; 3], area: f64, i: usize, j: usize) -> f64
         - grad[i] * grad[j] * (1.0 / (4.0 * area * area * area))
 }
 
-// What a triangle adds on the diagonal, by the numbers of its edges.
+// What a triangle adds on the diagonal, by the numbers of its edges. `s`, `area` and `deficit` go to `put_others` too, as `edges`, `s` and
+// `deficit` do to `add_first`: no fact binds them, and a struct would be made in one function and taken apart in the next.
 fn add_diagonal(edges: TriangleEdges, s: [f64; 3], area: f64, deficit: f64, diagonal: &mut [f64])
     requires { Below (edge_list edges) (length diagonal.old) }
     ensures { diagonal.new ≡ scatter nan ◌⊕◌ (on_diagonal (edge_list edges) (nine_adds s area deficit)) diagonal.old }

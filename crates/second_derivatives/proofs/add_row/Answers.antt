@@ -18,11 +18,11 @@ pub loop-f-preserved : goal.loop-f-preserved
 loop-f-preserved c =
     let a = c.args in
     let l = c.loop-f in
-    scattered-turn ◌⊕◌ (event a.matrix.now.n a.at.now a.jacobian.now a.k a.e a.slope) l.f _ a.matrix.now l.matrix _ (rw l.invariant.size refl) l.invariant c.add.ensures
+    scattered-turn ◌⊕◌ (event a.matrix.now.n a.pair.now.at.now a.pair.now.jacobian.now a.pair.now.k a.e a.slope) l.f _ a.matrix.now l.matrix _ (rw l.invariant.size refl) l.invariant c.add.ensures
 
 pub returns : goal.returns
 returns c =
     let a = c.args in
     let l = c.loop-f in
     let e : l.f ≡ 10 = omega arith in
-    rw (placed-map a.matrix.now.n a.at.now (λ f. ((a.e, f), a.slope ⊗ neg (get_or a.jacobian.now (10 * a.k + f) nan))) (upto 10)) (rw e at l.invariant)
+    rw (placed-map a.matrix.now.n a.pair.now.at.now (λ f. ((a.e, f), a.slope ⊗ neg (get_or a.pair.now.jacobian.now (10 * a.pair.now.k + f) nan))) (upto 10)) (rw e at l.invariant)

@@ -15,4 +15,4 @@ event n at jac k e slope f = placed_in n (get_or at e 0) (get_or at f 0) (slope 
 
 abbrev pub invariant-loop-f : goal.invariant-loop-f
 invariant-loop-f l =
-    Scattered ◌⊕◌ (gather (event l.initial.matrix.n l.at l.jacobian l.k l.e l.slope) (upto l.f)) l.initial.matrix l.matrix
+    Scattered ◌⊕◌ (gather (event l.initial.matrix.n l.pair.at.now l.pair.jacobian.now l.pair.k l.e l.slope) (upto l.f)) l.initial.matrix l.matrix

@@ -8,10 +8,10 @@ use Rattle.second_derivatives.proofs.Placing.{row_absent}
 use Rattle.second_derivatives.proofs.Scattering.{scattered-none}
 use Rattle.second_derivatives.proofs.add_slope.Goals as goal
 
-pub returns-then-at-e : goal.returns-then-at-e
-returns-then-at-e c =
+pub returns-then-pair-e : goal.returns-then-pair-e
+returns-then-pair-e c =
     let a = c.args in
-    rw (row_absent a.matrix.now.n a.at.now a.slope a.jacobian.now a.k a.e (omega (arith, c.if-at-e.true))) (scattered-none ◌⊕◌ a.matrix.now)
+    rw (row_absent a.matrix.now.n a.pair.now.at.now a.slope a.pair.now.jacobian.now a.pair.now.k a.e (omega (arith, c.if-pair-e.true))) (scattered-none ◌⊕◌ a.matrix.now)
 
 pub returns-then-abs : goal.returns-then-abs
 unfolding slope_row placed gather

@@ -19,7 +19,7 @@ pub loop-e-preserved : goal.loop-e-preserved
 loop-e-preserved c =
     let a = c.args in
     let l = c.loop-e in
-    scattered-turn ◌⊕◌ (event a.matrix.now.n a.at.now a.jacobian.now a.k a.factor a.grad.now) l.e _ a.matrix.now l.matrix _ (rw l.invariant.size refl) l.invariant c.add_slope.ensures
+    scattered-turn ◌⊕◌ (event a.matrix.now.n a.pair.now.at.now a.pair.now.jacobian.now a.pair.now.k a.factor a.grad.now) l.e _ a.matrix.now l.matrix _ (rw l.invariant.size refl) l.invariant c.add_slope.ensures
 
 pub returns : goal.returns
 unfolding slope_rows
@@ -27,4 +27,4 @@ returns c =
     let a = c.args in
     let l = c.loop-e in
     let e : l.e ≡ 10 = omega arith in
-    rw (placed-gather a.matrix.now.n a.at.now (λ e. slope_row (a.factor ⊗ get_or a.grad.now e nan) a.jacobian.now a.k e) (upto 10)) (rw e at l.invariant)
+    rw (placed-gather a.matrix.now.n a.pair.now.at.now (λ e. slope_row (a.factor ⊗ get_or a.grad.now e nan) a.pair.now.jacobian.now a.pair.now.k e) (upto 10)) (rw e at l.invariant)

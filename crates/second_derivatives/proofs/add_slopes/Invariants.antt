@@ -16,4 +16,4 @@ event n at jac k factor grad e = placed n at (slope_row (factor ⊗ get_or grad 
 
 abbrev pub invariant-loop-e : goal.invariant-loop-e
 invariant-loop-e l =
-    Scattered ◌⊕◌ (gather (event l.initial.matrix.n l.at l.jacobian l.k l.factor l.grad) (upto l.e)) l.initial.matrix l.matrix
+    Scattered ◌⊕◌ (gather (event l.initial.matrix.n l.pair.at.now l.pair.jacobian.now l.pair.k l.factor l.grad) (upto l.e)) l.initial.matrix l.matrix

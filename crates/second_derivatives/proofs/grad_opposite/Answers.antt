@@ -7,7 +7,7 @@ use Rattle.second_derivatives.proofs.Opposites.{gradient-is}
 use Rattle.second_derivatives.proofs.grad_opposite.Goals as goal
 
 pub unwrap-requires : goal.unwrap-requires
-unwrap-requires c = ap is_ok (c.tri_area_sq_grad_in_pent.ensures ∙ gradient-is c.args.k c.requires c.args.s.now)
+unwrap-requires c = ap is_ok (c.tri_area_sq_grad_in_pent.ensures ∙ gradient-is c.args.pair.now.k c.args.pair.now.below c.args.s.now)
 
 pub returns : goal.returns
-returns c = ap (λ r. value_or r []) (sym c.unwrap.ensures ∙ (c.tri_area_sq_grad_in_pent.ensures ∙ gradient-is c.args.k c.requires c.args.s.now))
+returns c = ap (λ r. value_or r []) (sym c.unwrap.ensures ∙ (c.tri_area_sq_grad_in_pent.ensures ∙ gradient-is c.args.pair.now.k c.args.pair.now.below c.args.s.now))

@@ -13,20 +13,21 @@ use Rattle.hinges.specs.Local.{local_triangles}
 use Rattle.second_derivatives.specs.Parts.{before}
 use Rattle.hessian.specs.Parts.{first_at}
 use Rattle.hessian.specs.Steps.{ahead, diagonal_events}
+use Rattle.hessian.proofs.Again.{measured-of}
 use Rattle.hessian.proofs.HessianTerms.{on-free, sums-whole}
 use Rattle.hessian.proofs.matrix.add_first_term.Goals as goal
 
 pub returns : goal.returns
 returns c =
-    let x = c.args.complex.now in
+    let x = c.args.built.now.complex in
     let F : FaceLists = faces_of x in
-    let ls = c.args.sq_lengths.now in
+    let ls = c.args.built.now.sq_lengths.now in
     let free = c.args.free_edges.now in
     let m = c.mark_tris in
     let f = c.add_tris in
     let p = c.put_diagonal.ensures in
     let marked : marked_below x.counts.triangles m.new.marks ≡ local_triangles F free =
-    on-free (triangles_of x) (edges_of x) free x.counts.triangles 81920 _ m.new.marks refl m.ensures (length-rows 3 x.counts.triangles x.triangles.now) c.requires.0.few in
+    on-free (triangles_of x) (edges_of x) free x.counts.triangles 81920 _ m.new.marks refl m.ensures (length-rows 3 x.counts.triangles x.triangles.now) (measured-of c.args.built.now).few in
     let sums = sums-whole F ls free 81920 refl _ _ f.new.diagonal marked refl f.ensures.diagonal in
     record {
       lent = p.lent ∙ f.ensures.others.lent;

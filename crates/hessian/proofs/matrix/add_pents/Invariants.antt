@@ -9,4 +9,4 @@ use Rattle.hessian.proofs.matrix.add_pents.Given as goal
 
 abbrev pub invariant-loop-p : goal.invariant-loop-p
 invariant-loop-p l =
-    Scattered ◌⊕◌ (gather (second_at (faces_of l.complex) l.sq_lengths l.free_edges l.fd_eps) (marked_below l.p l.marks)) l.initial.matrix l.matrix
+    Scattered ◌⊕◌ (gather (second_at (faces_of l.built.complex) l.built.sq_lengths.now l.free_edges l.fd_eps) (marked_below l.p l.marks)) l.initial.matrix l.matrix

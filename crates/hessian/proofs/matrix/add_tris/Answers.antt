@@ -22,24 +22,24 @@ use Rattle.hessian.proofs.matrix.add_tris.Goals.{then-mark, else-mark}
 
 pub loop-t-init : goal.loop-t-init
 unfolding marked_below keep upto gather scatter
-loop-t-init c = let a = c.args in (refl, refl, scattered-unmarked before (first_at (faces_of a.complex.now) a.sq_lengths.now a.free_edges.now) a.marks.now a.matrix.now)
+loop-t-init c = let a = c.args in (refl, refl, scattered-unmarked before (first_at (faces_of a.built.now.complex) a.built.now.sq_lengths.now a.free_edges.now) a.marks.now a.matrix.now)
 
 pub add_tri-requires : goal.add_tri-requires
 add_tri-requires c =
     let r = c.requires in
-    (r.0, omega (arith, length-take-le c.args.complex.now.counts.triangles c.args.marks.now r.1), omega (arith, r.2, c.loop-t.invariant.0), c.loop-t.invariant.2.size ∙ r.3)
+    (omega (arith, length-take-le c.args.built.now.complex.counts.triangles c.args.marks.now r.0), omega (arith, r.1, c.loop-t.invariant.0), c.loop-t.invariant.2.size ∙ r.2)
 
 pub loop-t-preserved : goal.loop-t-preserved
 loop-t-preserved c =
     let a = c.args in
     let l = c.loop-t in
     let M = a.marks.now in
-    let n = a.complex.now.counts.triangles in
-    let h : l.t < n = omega (arith, length-take-le n M c.requires.1) in
+    let n = a.built.now.complex.counts.triangles in
+    let h : l.t < n = omega (arith, length-take-le n M c.requires.0) in
     let read : get_or (take n M) l.t false ≡ get_or M l.t false = get_or-take n M l.t false h in
-    let F : FaceLists = faces_of a.complex.now in
-    let diagonals : ℕ → List (ℕ × Float) = diagonal_at F a.sq_lengths.now in
-    let others : ℕ → List (ℕ × Float) = first_at F a.sq_lengths.now a.free_edges.now in
+    let F : FaceLists = faces_of a.built.now.complex in
+    let diagonals : ℕ → List (ℕ × Float) = diagonal_at F a.built.now.sq_lengths.now in
+    let others : ℕ → List (ℕ × Float) = first_at F a.built.now.sq_lengths.now a.free_edges.now in
     elim c.if-mark.branch [
       | then-mark w ↦
           let f = w.add_tri in
@@ -58,7 +58,7 @@ loop-t-preserved c =
 
 pub returns : goal.returns
 returns c =
-    let n = c.args.complex.now.counts.triangles in
-    let e : c.loop-t.t ≡ n = omega (arith, c.loop-t-test.false, length-take-le n c.args.marks.now c.requires.1) in
+    let n = c.args.built.now.complex.counts.triangles in
+    let e : c.loop-t.t ≡ n = omega (arith, c.loop-t-test.false, length-take-le n c.args.marks.now c.requires.0) in
     let i = rw e at c.loop-t.invariant in
     record { diagonal = i.1; others = i.2 }

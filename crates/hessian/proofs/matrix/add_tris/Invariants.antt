@@ -15,5 +15,5 @@ use Rattle.hessian.proofs.matrix.add_tris.Given as goal
 abbrev pub invariant-loop-t : goal.invariant-loop-t
 invariant-loop-t l =
     (length l.diagonal ≡ length l.initial.diagonal)
-    × (l.diagonal ≡ scatter nan ◌⊕◌ (gather (diagonal_at (faces_of l.complex) l.sq_lengths) (marked_below l.t l.marks)) l.initial.diagonal)
-    × Scattered before (gather (first_at (faces_of l.complex) l.sq_lengths l.free_edges) (marked_below l.t l.marks)) l.initial.matrix l.matrix
+    × (l.diagonal ≡ scatter nan ◌⊕◌ (gather (diagonal_at (faces_of l.built.complex) l.built.sq_lengths.now) (marked_below l.t l.marks)) l.initial.diagonal)
+    × Scattered before (gather (first_at (faces_of l.built.complex) l.built.sq_lengths.now l.free_edges) (marked_below l.t l.marks)) l.initial.matrix l.matrix

@@ -1,17 +1,15 @@
 -- `hinges::contributions::add_contributions` meets its contract. Assumes nothing.
-use Prim.Native.Nat.{ℕ}
 use mathlib.Core.Path.{◌≡◌}
-use mathlib.Core.List.{List, map}
-use lib.ListN.{get_or}
-use lib.Ieee.{Float, nan}
+use lib.ListN.{length}
+use lib.Ieee.{nan}
+use mathlib.Core.List.{zip}
 use Rattle.floats.specs.Ops.{◌⊕◌}
-use Rattle.lists.specs.Lists.{upto}
+use Rattle.lists.specs.Groups.{Below}
 use Rattle.lists.specs.Loops.{scatter}
 use Rattle.hinges.proofs.contributions.add_contributions.Given as goal
 
--- the k-th edge with what is added there
-abbrev pub event : List ℕ → List Float → ℕ → ℕ × Float
-event es xs k = (get_or es k 0, get_or xs k nan)
-
-abbrev pub invariant-loop-k : goal.invariant-loop-k
-invariant-loop-k l = l.grad ≡ scatter nan ◌⊕◌ (map (event l.edge-items l.added) (upto l.k)) l.initial.grad
+-- what is still to be added leads to what all edges lead to
+abbrev pub invariant-loop-edge : goal.invariant-loop-edge
+invariant-loop-edge l =
+    Below l.edge-iterator.a.rest.now (length l.grad)
+    × (scatter nan ◌⊕◌ (zip l.edge-iterator.a.rest.now l.edge-iterator.b.rest.now) l.grad ≡ scatter nan ◌⊕◌ (zip l.initial.edge-iterator.a.rest.now l.initial.edge-iterator.b.rest.now) l.initial.grad)
