@@ -13,7 +13,7 @@ ghost use Rattle.replay.specs.Filled.{Made, word_of, entry_in, pattern_at};
 pub use printing::{Bits, print_row, read_full};
 use std::fmt;
 use std::fmt::Display;
-use std::io::Result;
+use std::io::{Read, Result};
 
 // ---- numbers
 
@@ -181,4 +181,24 @@ pub fn print_lines<F: Fn(usize) -> Result<usize>>(len: usize, print_line: F) -> 
         at = print_line(at)?;
     }
     Ok(())
+}
+
+// Prints the answers to each line of what an input gives, at most 65536 bytes: `print_line` prints those to the line that starts at
+// a place of the text, and answers where the next line starts.
+pub fn print_lines_of<F: Fn(&[u8], usize) -> Result<usize>>(
+    input: impl Read + Drop,
+    print_line: F,
+) -> Result<()>
+    requires can { (text : _) (at : ℕ) → at < length text.now → F.pre print_line text at }
+    requires advances { (text : _) (at : ℕ) (next : ℕ) → at < length text.now → F.post print_line text at (Ok next) → at < next }
+{
+    let mut text = [0u8; 65536];
+    let n = read_full(input, &mut text)?;
+    let text = &text[..n];
+    print_lines(
+        n,
+        |at|
+            requires { F.pre print_line text at }
+        { print_line(text, at) },
+    )
 }
