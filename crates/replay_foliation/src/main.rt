@@ -179,19 +179,7 @@ fn print_sq_lengths(rt: &impl Print, settings: &Settings, complex: &Complex<'_>)
 
 // Both answers to a line `f` whose pentachorons are given, if they are built.
 fn print_built(rt: &impl Print, settings: &Settings, given: &[u32]) -> Result<()> {
-    // Not `Lists::zeros()`: a call that answers lists of this size takes their stack four times over.
-    let mut lists = Lists::<ROOM> {
-        pents: LentList::zeros(ROOM),
-        edges: LentList::zeros(ROOM),
-        triangles: LentList::zeros(ROOM),
-        tets: LentList::zeros(ROOM),
-        tri_to_pents_items: LentList::zeros(ROOM),
-        tri_to_pents_starts: LentList::zeros(ROOM),
-        edge_to_tris_items: LentList::zeros(ROOM),
-        edge_to_tris_starts: LentList::zeros(ROOM),
-        edge_to_pents_items: LentList::zeros(ROOM),
-        edge_to_pents_starts: LentList::zeros(ROOM),
-    };
+    let mut lists = Lists::<ROOM>::zeros();
     let built = builder::from_pentachorons(settings.vertices, given, &mut lists.lend_mut());
     settings.change.make(&mut lists);
     if let Ok(counts) = built {
