@@ -17,7 +17,7 @@ use std::io::{Read, Result};
 
 // ---- numbers
 
-// The value of a hexadecimal digit in lower case, and 0 for any other byte.
+// The value of a hexadecimal digit in lower case, and 0 for any other byte. `char::to_digit` is no plainer: it takes upper case too.
 #[tactic(auto, unfolding(crate::specs::Hexadecimal::digit_of))]
 fn digit(b: u8) -> u64
     ensures { (result ≡ digit_of b) × (result < 16) }
@@ -29,7 +29,8 @@ fn digit(b: u8) -> u64
     }
 }
 
-// The number that the 16 digits from `at` spell, 0 where they run past the end.
+// The number that the 16 digits from `at` spell, 0 where they run past the end. `u64::from_str_radix` is no plainer: it refuses
+// other bytes, which count as 0 here.
 #[tactic(auto, unfolding(crate::specs::Hexadecimal::number_at))]
 pub fn number(s: &[u8], at: usize) -> u64
     ensures { result ≡ number_at s.now at }
@@ -45,7 +46,7 @@ pub fn number(s: &[u8], at: usize) -> u64
 
 // ---- lists
 
-// What a list can hold: a value for each number.
+// What a list can hold: a value for each number. Not `From<u64>`, which is the library's, as u32 and f64 are.
 pub trait Entry: Copy {
     ghost of_number: { ℕ → Self };
 
@@ -183,8 +184,8 @@ pub fn print_lines<F: Fn(usize) -> Result<usize>>(len: usize, print_line: F) -> 
     Ok(())
 }
 
-// Prints the answers to each line of what an input gives, at most 65536 bytes: `print_line` prints those to the line that starts at
-// a place of the text, and answers where the next line starts.
+// Prints the answers to each line of what an input gives, of which 65536 bytes are read, since there is no heap: `print_line` prints
+// those to the line that starts at a place of the text, and answers where the next line starts.
 pub fn print_lines_of<F: Fn(&[u8], usize) -> Result<usize>>(
     input: impl Read + Drop,
     print_line: F,
