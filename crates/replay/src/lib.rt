@@ -13,11 +13,11 @@ ghost use Rattle.replay.specs.Filled.{Made, word_of, entry_in, pattern_at};
 pub use printing::{Bits, print_row, read_full};
 use std::fmt;
 use std::fmt::Display;
-use std::io::Result;
+use std::io::{Read, Result};
 
 // ---- numbers
 
-// The value of a hexadecimal digit in lower case, and 0 for any other byte.
+// The value of a hexadecimal digit in lower case, and 0 for any other byte. `char::to_digit` is no plainer: it takes upper case too.
 #[tactic(auto, unfolding(crate::specs::Hexadecimal::digit_of))]
 fn digit(b: u8) -> u64
     ensures { (result ≡ digit_of b) × (result < 16) }
@@ -29,7 +29,8 @@ fn digit(b: u8) -> u64
     }
 }
 
-// The number that the 16 digits from `at` spell, 0 where they run past the end.
+// The number that the 16 digits from `at` spell, 0 where they run past the end. `u64::from_str_radix` is no plainer: it refuses
+// other bytes, which count as 0 here.
 #[tactic(auto, unfolding(crate::specs::Hexadecimal::number_at))]
 pub fn number(s: &[u8], at: usize) -> u64
     ensures { result ≡ number_at s.now at }
@@ -45,7 +46,7 @@ pub fn number(s: &[u8], at: usize) -> u64
 
 // ---- lists
 
-// What a list can hold: a value for each number.
+// What a list can hold: a value for each number. Not `From<u64>`, which is the library's, as u32 and f64 are.
 pub trait Entry: Copy {
     ghost of_number: { ℕ → Self };
 
@@ -181,4 +182,24 @@ pub fn print_lines<F: Fn(usize) -> Result<usize>>(len: usize, print_line: F) -> 
         at = print_line(at)?;
     }
     Ok(())
+}
+
+// Prints the answers to each line of what an input gives, of which 65536 bytes are read, since there is no heap: `print_line` prints
+// those to the line that starts at a place of the text, and answers where the next line starts.
+pub fn print_lines_of<F: Fn(&[u8], usize) -> Result<usize>>(
+    input: impl Read + Drop,
+    print_line: F,
+) -> Result<()>
+    requires can { (text : _) (at : ℕ) → at < length text.now → F.pre print_line text at }
+    requires advances { (text : _) (at : ℕ) (next : ℕ) → at < length text.now → F.post print_line text at (Ok next) → at < next }
+{
+    let mut text = [0u8; 65536];
+    let n = read_full(input, &mut text)?;
+    let text = &text[..n];
+    print_lines(
+        n,
+        |at|
+            requires { F.pre print_line text at }
+        { print_line(text, at) },
+    )
 }

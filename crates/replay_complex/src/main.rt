@@ -10,7 +10,7 @@ ghost use Rattle.std.specs.Prelude.{◌+◌, ◌<◌, ◌≤◌, length, IfOk};
 
 use complex::Counts;
 use refusals::{Refusal, number_in};
-use replay::{Line, print_lines, print_row, read_full};
+use replay::{Line, print_lines_of, print_row};
 use replay_lists::{Change, CountName, LentList, ListName, Lists, Target, with_count};
 use std::io::Result;
 
@@ -223,8 +223,5 @@ fn print_line(rt: &impl Print, text: &[u8], at: usize) -> Result<usize>
 }
 
 fn main(rt: HostRuntime) -> Result<()> {
-    let mut text = [0u8; 65536];
-    let n = read_full(rt.stdin(), &mut text)?;
-    let text = &text[..n];
-    print_lines(n, |at| print_line(&rt, text, at))
+    print_lines_of(rt.stdin(), |text, at| print_line(&rt, text, at))
 }

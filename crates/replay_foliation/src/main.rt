@@ -10,12 +10,11 @@
 #![tactic(auto)]
 
 ghost use Rattle.std.specs.Prelude.{◌+◌, ◌<◌, ◌≤◌, length, IfOk};
-ghost use Rattle.std.specs.Iterator.{IsFinite};
 
 use complex::Complex;
 use foliation::Lattice;
 use refusals::number_in;
-use replay::{Bits, Line, fill_pattern, first, print_lines, put, read_full};
+use replay::{Bits, Line, fill_pattern, first, print_lines_of, put};
 use replay_lists::{Change, LentList, Lists, Target};
 use std::array;
 use std::fmt::Display;
@@ -117,15 +116,15 @@ impl Summed for Bits {
     }
 }
 
-// The rest of a line: the values of a row, where it is printed whole, and their checksum.
-fn print_summed<T: Summed + Drop, I: Iterator<Item = T> + Drop>(
+// The rest of a line: the values of a row, where there are at most `most` of them, and their checksum.
+fn print_summed<T: Summed + Drop, I: ExactSizeIterator<Item = T> + Drop>(
     rt: &impl Print,
-    whole: bool,
     row: I,
+    most: usize,
 ) -> Result<()>
     requires can { I.can_next row }
-    requires ends { IsFinite (I.remaining row) }
 {
+    let whole = row.len() <= most;
     let mut sum = 0;
     for value in row {
         if whole {
@@ -148,8 +147,7 @@ fn print_listing(rt: &impl Print, line: Line<'_>) -> Result<()> {
     let listed = foliation::foliated_hypercubic(lattice, pents.lend_mut());
     println!(rt; "listed {} {}", number_in(&listed), listed.unwrap_or(77))?;
     print!(rt; "pents")?;
-    let pents = pents.lend();
-    print_summed(rt, pents.len() <= 2000, pents.iter().copied())
+    print_summed(rt, pents.lend().iter().copied(), 2000)
 }
 
 // ---- edges
@@ -160,12 +158,7 @@ fn print_edge_types(rt: &impl Print, settings: &Settings, complex: &Complex<'_>)
     let types = &mut types[..settings.room];
     let outcome = lattice_edges::edge_types(settings.lattice, complex, types);
     print!(rt; "types {}", number_in(&outcome))?;
-    let whole = settings.room <= 400;
-    print_summed(
-        rt,
-        whole,
-        types.iter().map(|edge_type| u32::from(*edge_type)),
-    )
+    print_summed(rt, types.iter().map(|edge_type| u32::from(*edge_type)), 400)
 }
 
 // The lengths of a line `f`.
@@ -181,25 +174,12 @@ fn print_sq_lengths(rt: &impl Print, settings: &Settings, complex: &Complex<'_>)
         lengths,
     );
     print!(rt; "lengths {}", number_in(&outcome))?;
-    let whole = settings.room <= 400;
-    print_summed(rt, whole, lengths.iter().map(|x| Bits(*x)))
+    print_summed(rt, lengths.iter().map(|x| Bits(*x)), 400)
 }
 
 // Both answers to a line `f` whose pentachorons are given, if they are built.
 fn print_built(rt: &impl Print, settings: &Settings, given: &[u32]) -> Result<()> {
-    // Not `Lists::zeros()`: a call that answers lists of this size takes their stack four times over.
-    let mut lists = Lists::<ROOM> {
-        pents: LentList::zeros(ROOM),
-        edges: LentList::zeros(ROOM),
-        triangles: LentList::zeros(ROOM),
-        tets: LentList::zeros(ROOM),
-        tri_to_pents_items: LentList::zeros(ROOM),
-        tri_to_pents_starts: LentList::zeros(ROOM),
-        edge_to_tris_items: LentList::zeros(ROOM),
-        edge_to_tris_starts: LentList::zeros(ROOM),
-        edge_to_pents_items: LentList::zeros(ROOM),
-        edge_to_pents_starts: LentList::zeros(ROOM),
-    };
+    let mut lists = Lists::<ROOM>::zeros();
     let built = builder::from_pentachorons(settings.vertices, given, &mut lists.lend_mut());
     settings.change.make(&mut lists);
     if let Ok(counts) = built {
@@ -241,8 +221,5 @@ fn print_line(rt: &impl Print, text: &[u8], at: usize) -> Result<usize>
 }
 
 fn main(rt: HostRuntime) -> Result<()> {
-    let mut text = [0u8; 65536];
-    let n = read_full(rt.stdin(), &mut text)?;
-    let text = &text[..n];
-    print_lines(n, |at| print_line(&rt, text, at))
+    print_lines_of(rt.stdin(), |text, at| print_line(&rt, text, at))
 }

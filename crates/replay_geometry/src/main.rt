@@ -7,7 +7,7 @@
 ghost use Rattle.std.specs.Prelude.{◌+◌, ◌<◌, length, IfOk};
 
 use lorentzian::{Dihedral, edge_idx, triangle_area_sq_lorentzian};
-use replay::{Bits, Doubles, Line, print_lines, print_row, read_full};
+use replay::{Bits, Doubles, Line, print_lines_of, print_row};
 use std::fmt::Display;
 use std::io::Result;
 use std::{array, fmt};
@@ -160,8 +160,5 @@ fn print_line(rt: &impl Print, text: &[u8], at: usize) -> Result<usize>
 }
 
 fn main(rt: HostRuntime) -> Result<()> {
-    let mut text = [0u8; 65536];
-    let n = read_full(rt.stdin(), &mut text)?;
-    let text = &text[..n];
-    print_lines(n, |at| print_line(&rt, text, at))
+    print_lines_of(rt.stdin(), |text, at| print_line(&rt, text, at))
 }

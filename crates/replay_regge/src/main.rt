@@ -20,7 +20,7 @@ use hinges::{Hinge, kind_in};
 use incidence::TriangleNumber;
 use lorentzian::HingeType;
 use refusals::number_in;
-use replay::{Bits, Doubles, Line, fill_pattern, print_lines, print_row, read_full};
+use replay::{Bits, Doubles, Line, fill_pattern, print_lines_of, print_row};
 use replay_lists::{Change, Lists};
 use std::fmt::Display;
 use std::io::Result;
@@ -313,8 +313,5 @@ fn print_line(rt: &impl Print, text: &[u8], at: usize) -> Result<usize>
 }
 
 fn main(rt: HostRuntime) -> Result<()> {
-    let mut text = [0u8; 65536];
-    let n = read_full(rt.stdin(), &mut text)?;
-    let text = &text[..n];
-    print_lines(n, |at| print_line(&rt, text, at))
+    print_lines_of(rt.stdin(), |text, at| print_line(&rt, text, at))
 }
