@@ -31,9 +31,9 @@ fn add_marked_contributions(
         × (built.now.complex.counts.triangles ≤ length marks.now) × (built.now.complex.counts.edges ≤ length entries.old) }
     ensures { entries.new ≡ scatter nan ◌⊕◌ (gather (contributions (faces_of built.now.complex) sq_lengths.now (deficits_of (hinges (faces_of built.now.complex) sq_lengths.now))) (marked_below built.now.complex.counts.triangles marks.now)) entries.old }
 {
-    for t in 0..built.complex.counts.triangles as u32 {
-        if marks[t as usize] {
-            let tri = TriangleNumber(t);
+    for (t, mark) in marks[..built.complex.counts.triangles].iter().enumerate() {
+        if *mark {
+            let tri = TriangleNumber(t as u32);
             let own = tri_edge_indices(&built.complex, &built.incidence, tri);
             let s = tri_sq_lengths(own, sq_lengths);
             let hinge = hinge_at(&built.complex, &built.incidence, sq_lengths, tri);
