@@ -42,8 +42,8 @@ fn add_marked_contributions(
     }
 }
 
-// Writes the entries of free edges, in the order of the list. By the index: of what is written through a zip of `iter_mut` a proof
-// knows no element.
+// Writes the entries of free edges, in the order of the list. By the index: through `iter_mut` the free edges would be read by the
+// index instead, and of what is written through a zip with it a proof knows no element.
 fn write_entries(free_edges: &[u32], entries: &[f64], grad: &mut [f64])
     requires { Below free_edges.now (length entries.now) × (length free_edges.now ≤ length grad.old) }
     ensures { grad.new ≡ over (map (λ e. get_or entries.now e nan) free_edges.now) grad.old }
