@@ -18,7 +18,8 @@ pub struct BuiltComplex<'a> {
 }
 
 // A built complex with the numbers of its pentachorons' edges and triangles, or 7. Each call over a complex begins with it, and lends
-// the two lists for the numbers: memory is fixed.
+// the two lists for the numbers: memory is fixed. No function lends them and calls a closure with the built complex: the proof of a call
+// doesn't close with it, since of what the closure leaves in the lists that it borrows nothing is known.
 #[tactic(auto, unfolding(crate::specs::Calls::built_check_of))]
 pub fn check_complex<'a>(
     complex: Complex<'a>,

@@ -13,7 +13,8 @@ use incidence::TriangleNumber;
 use marks::stands_twice;
 use refusals::Refusal;
 
-// 8 where there are not as many lengths as edges.
+// 8 where there are not as many lengths as edges. No struct holds a built complex with its lengths: each call that passes this check has
+// at most one loop of its own over both, for which alone it would be made, and a retouch writes a length between the check and its loop.
 #[tactic(auto, unfolding(crate::specs::Calls::lengths_check_of))]
 pub fn check_lengths(counts: Counts, lengths: usize) -> Result<(), Refusal>
     ensures { result ≡ lengths_check_of counts lengths Done }

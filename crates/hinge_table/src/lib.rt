@@ -34,7 +34,8 @@ fn write_all(built: &BuiltComplex<'_>, sq_lengths: &[f64], table: &mut [Hinge])
     }
 }
 
-// All hinges of a built complex.
+// All hinges of a built complex. The steps are those of `lorentzian_deficit_angles_built` over two lists: only the check of room and
+// what is stored differ, and one function of both would need a trait for the two.
 fn deficit_angles_of(
     built: &BuiltComplex<'_>,
     sq_lengths: &[f64],
@@ -69,8 +70,8 @@ pub fn lorentzian_deficit_angles(
 
 // ---- the retouch
 
-// Writes the records of the triangles of a list, each at its own place. A trait for this and for the loop of `retouch` over two lists
-// would be longer than both.
+// Writes the records of the triangles of a list, each at its own place. A loop of its own beside that of `retouch` over two lists: with
+// a closure the proof doesn't close, and a trait would be longer than both (retouch, records.rt).
 fn write_records(built: &BuiltComplex<'_>, sq_lengths: &[f64], tris: &[u32], table: &mut [Hinge])
     requires { (length sq_lengths.now ≡ built.now.complex.counts.edges)
         × Below tris.now built.now.complex.counts.triangles × (built.now.complex.counts.triangles ≤ length table.old) }
@@ -82,7 +83,8 @@ fn write_records(built: &BuiltComplex<'_>, sq_lengths: &[f64], tris: &[u32], tab
     }
 }
 
-// The retouch of a built complex.
+// The retouch of a built complex. The steps are those of `retouch_built` over two lists: only the check of room and what is stored
+// differ, and one function of both would need a trait for the two.
 fn retouch_of(
     built: &BuiltComplex<'_>,
     sq_lengths: &mut [f64],

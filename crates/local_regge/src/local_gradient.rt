@@ -31,9 +31,9 @@ fn add_marked_contributions(
         × (built.now.complex.counts.triangles ≤ length marks.now) × (built.now.complex.counts.edges ≤ length entries.old) }
     ensures { entries.new ≡ scatter nan ◌⊕◌ (gather (contributions (faces_of built.now.complex) sq_lengths.now (deficits_of (hinges (faces_of built.now.complex) sq_lengths.now))) (marked_below built.now.complex.counts.triangles marks.now)) entries.old }
 {
-    for t in 0..built.complex.counts.triangles as u32 {
-        if marks[t as usize] {
-            let tri = TriangleNumber(t);
+    for (t, mark) in marks[..built.complex.counts.triangles].iter().enumerate() {
+        if *mark {
+            let tri = TriangleNumber(t as u32);
             let own = tri_edge_indices(&built.complex, &built.incidence, tri);
             let s = tri_sq_lengths(own, sq_lengths);
             let hinge = hinge_at(&built.complex, &built.incidence, sq_lengths, tri);
@@ -42,8 +42,8 @@ fn add_marked_contributions(
     }
 }
 
-// Writes the entries of free edges, in the order of the list. By the index: of what is written through a zip of `iter_mut` a proof
-// knows no element.
+// Writes the entries of free edges, in the order of the list. By the index: through `iter_mut` the free edges would be read by the
+// index instead, and of what is written through a zip with it a proof knows no element.
 fn write_entries(free_edges: &[u32], entries: &[f64], grad: &mut [f64])
     requires { Below free_edges.now (length entries.now) × (length free_edges.now ≤ length grad.old) }
     ensures { grad.new ≡ over (map (λ e. get_or entries.now e nan) free_edges.now) grad.old }

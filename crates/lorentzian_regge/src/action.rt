@@ -27,7 +27,7 @@ fn sum_up(built: &BuiltComplex<'_>, sq_lengths: &[f64], deficits: &[f64]) -> f64
     action
 }
 
-// `lorentzian_regge_action` of a built complex.
+// `lorentzian_regge_action` of a built complex. Kinds as bytes, and unread: `write_table` fills the lists that C lends.
 pub fn lorentzian_regge_action_built(
     built: &BuiltComplex<'_>,
     sq_lengths: &[f64],

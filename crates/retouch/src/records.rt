@@ -9,8 +9,10 @@ use calls::BuiltComplex;
 use hinges::{byte_of, hinge_at};
 use incidence::TriangleNumber;
 
-// Writes the deficits and kinds of the triangles of a list, each at its own place. A table of records is written by a loop that is the
-// same but for what it stores; a trait of such stores, with its law and two impls, would be longer than both loops.
+// Writes the deficits and kinds of the triangles of a list, each at its own place.
+// A loop of its own beside that of `hinge_table`, which is the same but for what it stores: with one loop that calls a closure with each
+// hinge the proof doesn't close, since of what the closure leaves in the lists that it borrows nothing is known; a trait of such stores,
+// with its law and two impls, would be longer than both loops, as would a closure that takes the lists and a statement of all its calls.
 pub fn write_records(
     built: &BuiltComplex<'_>,
     sq_lengths: &[f64],

@@ -1,5 +1,5 @@
 // The triangles that a retouch works out anew, and the check of its edge.
-ghost use Rattle.std.specs.Prelude.{◌≡◌, true, ◌≤◌, ◌<◌, length};
+ghost use Rattle.std.specs.Prelude.{◌≡◌, ◌≤◌, ◌<◌, length};
 ghost use Rattle.refusals.specs.Refusals.{Done};
 ghost use Rattle.lists.specs.Rows.{over};
 ghost use Rattle.complex.specs.Lent.{pents_of, edges_of, triangles_of, IsHolding};
@@ -45,7 +45,8 @@ fn mark_touched<'a>(
     }
 }
 
-// Writes the numbers of those triangles, each once, ascending; answers how many there are.
+// Writes the numbers of those triangles, each once, ascending; answers how many there are. A count and not the lent front: a list that
+// is lent on has no value after the call, and nothing would be promised of the places behind the front.
 pub fn list_touched<'a>(
     complex: &Complex<'a>,
     incidence: &Incidence<'a>,

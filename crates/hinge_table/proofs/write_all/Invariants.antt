@@ -1,6 +1,6 @@
 -- `hinge_table::write_all` meets its contract. Assumes nothing.
 use mathlib.Core.Path.{◌≡◌}
-use lib.ListN.{length, take}
+use lib.ListN.{take}
 use Rattle.lists.specs.Lists.{upto}
 use Rattle.lists.specs.Writes.{writes}
 use Rattle.hinges.specs.Hinges.{hinges, hinge_in, faces_of}
