@@ -18,7 +18,7 @@ use hinges::{Hinge, kind_in};
 use incidence::EdgeNumber;
 use lorentzian::HingeType;
 use refusals::number_in;
-use replay::{Bits, Doubles, Line, print_lines, print_row, put, read_full};
+use replay::{Bits, Doubles, Line, print_lines_of, print_row, put};
 use replay_lists::{ListName, Lists};
 use std::array;
 use std::io::Result;
@@ -200,8 +200,5 @@ fn print_line(rt: &impl Print, text: &[u8], at: usize) -> Result<usize>
 }
 
 fn main(rt: HostRuntime) -> Result<()> {
-    let mut text = [0u8; 65536];
-    let n = read_full(rt.stdin(), &mut text)?;
-    let text = &text[..n];
-    print_lines(n, |at| print_line(&rt, text, at))
+    print_lines_of(rt.stdin(), |text, at| print_line(&rt, text, at))
 }
