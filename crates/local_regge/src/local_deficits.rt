@@ -23,7 +23,7 @@ fn lacks_room(count: usize, tris: usize, deficits: usize, kinds: usize) -> bool
 }
 
 // Writes the deficits and kinds of the triangles of a list. By the index: of what is written through a zip of `iter_mut` a proof knows
-// no element.
+// no element. A loop of its own beside those of `retouch` and `hinge_table`: with a closure the proof doesn't close (retouch, records.rt).
 fn write_hinges(
     built: &BuiltComplex<'_>,
     sq_lengths: &[f64],

@@ -152,7 +152,7 @@ fn print_listing(rt: &impl Print, line: Line<'_>) -> Result<()> {
 
 // ---- edges
 
-// The types of a line `f`.
+// The types of a line `f`: bytes, as the call fills them for C.
 fn print_edge_types(rt: &impl Print, settings: &Settings, complex: &Complex<'_>) -> Result<()> {
     let mut types: [u8; 2000] = array::from_fn(|i| 100 + (i % 100) as u8);
     let types = &mut types[..settings.room];

@@ -113,7 +113,7 @@ impl Display for Letter {
     }
 }
 
-// A line with kinds.
+// A line with kinds: bytes, as the calls fill them for C.
 fn print_kinds(rt: &impl Print, kinds: &[u8]) -> Result<()> {
     print!(rt; "kinds")?;
     print_row(rt, kinds.iter().map(|byte| Letter(kind_in(*byte))))
