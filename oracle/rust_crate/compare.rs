@@ -1,6 +1,7 @@
 //! Compares the Rust crate of bindings/rust with the altered Rust: what it builds, what it answers, and its refusals with the table.
 mod complexes;
 mod over;
+mod programs;
 mod report;
 mod simplices;
 
@@ -44,7 +45,7 @@ fn lattices(report: &mut Report) {
         let (lattice, rust) = complexes::of_lattice(report, size);
         let flat = cjapthumi::foliation::flat_minkowski_sq_lengths(&lattice, 1.0, 0.5);
         let lengths = flat.into_iter().map(|length| length + random.between(-MOVED, MOVED)).collect();
-        Over { ours: lattice.complex(), rust: &rust, lengths }.compare(report, &mut random, number);
+        Over { ours: &lattice.complex, rust: &rust, lengths }.compare(report, &mut random, number);
     }
 }
 

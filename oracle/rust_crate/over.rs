@@ -1,4 +1,5 @@
 //! The crate's calls over a complex beside the altered Rust's, and their refusals beside the table.
+use crate::programs;
 use crate::report::{Refused, Report, all_bits, bits};
 use calls::random::Random;
 use cjapthumi::Complex;
@@ -126,6 +127,7 @@ impl Over<'_> {
         self.global(report, &wrong, 0);
         self.local(report, &self.lengths, &free, fd_eps);
         self.local(report, &wrong, &free, fd_eps);
+        programs::compare(report, (self.ours, self.rust), &self.lengths, &free, fd_eps);
         self.local(report, &self.lengths, &[&free[..], &free[..], &[outside]].concat(), fd_eps);
         if edges > 0 {
             self.local(report, &self.lengths, &[&free[..], &[0], &free[..], &[0]].concat(), fd_eps);

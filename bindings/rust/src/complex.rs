@@ -1,9 +1,9 @@
 //! Simplicial complexes in 4D: pentachorons, their faces, and which lie in which.
 use crate::ffi::{self, BuiltLists, Lists};
+use crate::incidence::Incidence;
 use crate::refusal::{Refusal, answered_at};
-use std::collections::BTreeMap;
-use std::ops::Index;
-use std::sync::OnceLock;
+use std::ops::Deref;
+use std::sync::Arc;
 
 /// An edge's two vertices, ascending.
 pub type Edge = [usize; 2];
@@ -32,84 +32,48 @@ const MOST_PENTS: usize = 8_192;
 const ROOMS: [(usize, usize); 10] =
     [(5, 0), (20, 0), (30, 0), (20, 0), (10, 0), (10, 1), (30, 0), (10, 1), (10, 0), (10, 1)];
 
-/// For each face the numbers of those in which it lies, ascending; list `k` is `adjacency[k]`.
-#[derive(Debug, Clone, PartialEq, Eq)]
-pub struct Adjacency {
-    items: Vec<usize>,
-    starts: Vec<usize>,
-}
-
-impl Adjacency {
-    /// The lists that stand in the library's items and starts.
-    fn new(items: &[u32], starts: &[u32]) -> Adjacency {
-        Adjacency { items: widened(items), starts: widened(starts) }
-    }
-
-    /// How many lists there are.
-    pub fn len(&self) -> usize {
-        self.starts.len() - 1
-    }
-
-    /// Whether there are none.
-    pub fn is_empty(&self) -> bool {
-        self.len() == 0
-    }
-
-    /// The list of a face, if there is one of this number.
-    pub fn get(&self, face: usize) -> Option<&[usize]> {
-        (face < self.len()).then(|| &self[face])
-    }
-
-    /// The lists in the order of the faces.
-    pub fn iter(&self) -> impl ExactSizeIterator<Item = &[usize]> {
-        (0..self.len()).map(|face| &self[face])
-    }
-}
-
-impl Index<usize> for Adjacency {
-    type Output = [usize];
-
-    fn index(&self, face: usize) -> &[usize] {
-        &self.items[self.starts[face]..self.starts[face + 1]]
-    }
-}
-
 /// A 4D simplicial complex with its incidence, as the library's builder makes it.
 ///
-/// Edges, triangles and tets are numbered by first meeting, in the order of the pentachorons. Nothing changes a complex once it is
-/// built, and the calls over it rely on that.
+/// Edges, triangles and tets are numbered by first meeting, in the order of the pentachorons. What phyz-regge has as fields is read
+/// as fields here too, those of [`Incidence`]:
 ///
 /// ```
 /// use cjapthumi::Complex;
 ///
 /// let complex = Complex::from_pentachorons(6, &[[4, 3, 2, 1, 0], [1, 2, 3, 4, 5]])?;
 /// assert_eq!((complex.n_edges(), complex.n_triangles(), complex.n_pents()), (14, 16, 2));
-/// assert_eq!(complex.pents()[0], [0, 1, 2, 3, 4]);
-/// let shared = complex.tri_index()[&[1, 2, 3]];
-/// assert_eq!(complex.tri_to_pents()[shared], [0, 1]);
+/// assert_eq!(complex.pents[0], [0, 1, 2, 3, 4]);
+/// let shared = complex.tri_index[&[1, 2, 3]];
+/// assert_eq!(complex.tri_to_pents[shared], [0, 1]);
 /// # Ok::<(), cjapthumi::Refusal>(())
+/// ```
+///
+/// Nothing changes a complex once it is built, and the calls over it rely on that. So this does not compile:
+///
+/// ```compile_fail
+/// use cjapthumi::Complex;
+///
+/// let mut complex = Complex::from_pentachorons(5, &[[0, 1, 2, 3, 4]]).unwrap();
+/// complex.edges[0] = [0, 2];
 /// ```
 #[derive(Debug, Clone)]
 pub struct Complex {
     /// What the library is lent: counts, the ten lists, and each pentachoron's edges and triangles.
     counts: [usize; 5],
-    lists: [Vec<u32>; 10],
+    lists: [Arc<Vec<u32>>; 10],
     pent_edges: Vec<u32>,
     pent_tris: Vec<u32>,
 
-    /// The same lists for the reader.
-    pents: Vec<Pent>,
-    edges: Vec<Edge>,
-    triangles: Vec<Triangle>,
-    tets: Vec<Tet>,
-    tri_to_pents: Adjacency,
-    edge_to_tris: Adjacency,
-    edge_to_pents: Adjacency,
+    /// The same for the reader.
+    incidence: Incidence,
+}
 
-    /// Each face's number, worked out when it is first asked for.
-    edge_index: OnceLock<BTreeMap<Edge, usize>>,
-    tri_index: OnceLock<BTreeMap<Triangle, usize>>,
-    tet_index: OnceLock<BTreeMap<Tet, usize>>,
+impl Deref for Complex {
+    type Target = Incidence;
+
+    fn deref(&self) -> &Incidence {
+        &self.incidence
+    }
 }
 
 impl Complex {
@@ -131,11 +95,11 @@ impl Complex {
         let given = (given.as_ptr(), given.len());
         let number = unsafe { ffi::from_pentachorons(n_vertices, given, lent, counts.as_mut_ptr(), &mut place) };
         answered_at(number, place)?;
-        Ok(Complex::check(counts, cut(&counts, lists)))
+        Ok(Complex::check(counts, cut(&counts, lists).map(Arc::new)))
     }
 
     /// The complex of counts and lists that the builder wrote. The check is made here, once: the calls over a complex rely on it.
-    fn check(counts: [usize; 5], lists: [Vec<u32>; 10]) -> Complex {
+    fn check(counts: [usize; 5], lists: [Arc<Vec<u32>>; 10]) -> Complex {
         let (mut pent_edges, mut pent_tris) = (vec![0; 10 * counts[1]], vec![0; 10 * counts[1]]);
         let number = unsafe {
             ffi::check_built(
@@ -147,22 +111,8 @@ impl Complex {
             )
         };
         assert_eq!(number, 0, "what the builder writes is built");
-        Complex {
-            pents: rows(&lists[0]),
-            edges: rows(&lists[1]),
-            triangles: rows(&lists[2]),
-            tets: rows(&lists[3]),
-            tri_to_pents: Adjacency::new(&lists[4], &lists[5]),
-            edge_to_tris: Adjacency::new(&lists[6], &lists[7]),
-            edge_to_pents: Adjacency::new(&lists[8], &lists[9]),
-            edge_index: OnceLock::new(),
-            tri_index: OnceLock::new(),
-            tet_index: OnceLock::new(),
-            counts,
-            lists,
-            pent_edges,
-            pent_tris,
-        }
+        let incidence = Incidence::new(&counts, &lists);
+        Complex { counts, lists, pent_edges, pent_tris, incidence }
     }
 
     /// Counts and lists as a checked call of the library takes them.
@@ -180,17 +130,12 @@ impl Complex {
         }
     }
 
-    /// How many vertices there are.
-    pub fn n_vertices(&self) -> usize {
-        self.counts[0]
-    }
-
     /// How many edges there are, and so how many squared lengths the calls take.
     pub fn n_edges(&self) -> usize {
         self.edges.len()
     }
 
-    /// How many triangles there are: in 4D they are the hinges.
+    /// How many triangles there are.
     pub fn n_triangles(&self) -> usize {
         self.triangles.len()
     }
@@ -198,56 +143,6 @@ impl Complex {
     /// How many pentachorons there are.
     pub fn n_pents(&self) -> usize {
         self.pents.len()
-    }
-
-    /// The pentachorons, in the order in which they were given.
-    pub fn pents(&self) -> &[Pent] {
-        &self.pents
-    }
-
-    /// The edges.
-    pub fn edges(&self) -> &[Edge] {
-        &self.edges
-    }
-
-    /// The triangles.
-    pub fn triangles(&self) -> &[Triangle] {
-        &self.triangles
-    }
-
-    /// The tets.
-    pub fn tets(&self) -> &[Tet] {
-        &self.tets
-    }
-
-    /// For each triangle the pentachorons in which it lies.
-    pub fn tri_to_pents(&self) -> &Adjacency {
-        &self.tri_to_pents
-    }
-
-    /// For each edge the triangles in which it lies.
-    pub fn edge_to_tris(&self) -> &Adjacency {
-        &self.edge_to_tris
-    }
-
-    /// For each edge the pentachorons in which it lies.
-    pub fn edge_to_pents(&self) -> &Adjacency {
-        &self.edge_to_pents
-    }
-
-    /// The number of each edge, by its vertices.
-    pub fn edge_index(&self) -> &BTreeMap<Edge, usize> {
-        self.edge_index.get_or_init(|| index_of(&self.edges))
-    }
-
-    /// The number of each triangle, by its vertices.
-    pub fn tri_index(&self) -> &BTreeMap<Triangle, usize> {
-        self.tri_index.get_or_init(|| index_of(&self.triangles))
-    }
-
-    /// The number of each tet, by its vertices.
-    pub fn tet_index(&self) -> &BTreeMap<Tet, usize> {
-        self.tet_index.get_or_init(|| index_of(&self.tets))
     }
 
     /// The numbers of a pentachoron's ten edges 01, 02, 03, 04, 12, 13, 14, 23, 24, 34.
@@ -280,7 +175,7 @@ impl Complex {
     /// If there is no triangle of this number.
     pub fn tri_edge_indices(&self, tri_idx: usize) -> [usize; 3] {
         let [a, b, c] = self.triangles[tri_idx];
-        [[a, b], [a, c], [b, c]].map(|edge| self.edge_index()[&edge])
+        [[a, b], [a, c], [b, c]].map(|edge| self.edge_index[&edge])
     }
 
     /// What a list with an entry for each edge has for a triangle's three edges.
@@ -295,11 +190,6 @@ impl Complex {
 /// A number as the library takes it: one that is too large for it is so for every complex.
 pub(crate) fn narrowed(number: usize) -> u32 {
     u32::try_from(number).unwrap_or(u32::MAX)
-}
-
-/// Numbers of the library for the reader.
-fn widened(numbers: &[u32]) -> Vec<usize> {
-    numbers.iter().map(|&number| number as usize).collect()
 }
 
 /// The lists without the places that the builder left.
@@ -326,18 +216,8 @@ fn cut(counts: &[usize; 5], mut lists: [Vec<u32>; 10]) -> [Vec<u32>; 10] {
 }
 
 /// Counts and lists as the library takes them.
-fn lent(counts: &[usize; 5], lists: &[Vec<u32>; 10]) -> Lists {
+fn lent(counts: &[usize; 5], lists: &[Arc<Vec<u32>>; 10]) -> Lists {
     Lists { counts: counts.as_ptr(), lists: lists.each_ref().map(|list| (list.as_ptr(), list.len())) }
-}
-
-/// The rows of a list, for the reader.
-fn rows<const N: usize>(list: &[u32]) -> Vec<[usize; N]> {
-    list.as_chunks().0.iter().map(|row: &[u32; N]| row.map(|number| number as usize)).collect()
-}
-
-/// The number of each row.
-fn index_of<const N: usize>(rows: &[[usize; N]]) -> BTreeMap<[usize; N], usize> {
-    rows.iter().enumerate().map(|(number, &row)| (row, number)).collect()
 }
 
 /// Row `number` of a list of rows of ten.

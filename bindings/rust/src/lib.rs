@@ -10,7 +10,7 @@
 //! - An answer has the same bits each time: nothing is summed in hash order, and a free edge's local gradient is its entry of the
 //!   global one.
 //! - [`Complex`], under its other name [`complex::SimplicialComplex`], keeps its lists to itself: what are fields there are methods
-//!   here, `complex.edges()` for `complex.edges`.
+//!   here, `complex.edges` for `complex.edges`.
 //! - [`retouch`](retouch::retouch) brings a table of hinges up to date after one length has changed.
 //!
 //! ```
@@ -21,8 +21,8 @@
 //! let lattice = foliated_hypercubic(3, 2)?;
 //! let mut lengths = flat_minkowski_sq_lengths(&lattice, 1.0, 0.5);
 //! lengths[7] += 0.01;
-//! let grad = lorentzian_regge_action_grad(lattice.complex(), &lengths)?;
-//! let local = local_lorentzian_regge_action_grad(lattice.complex(), &lengths, &[7, 3])?;
+//! let grad = lorentzian_regge_action_grad(&lattice.complex, &lengths)?;
+//! let local = local_lorentzian_regge_action_grad(&lattice.complex, &lengths, &[7, 3])?;
 //! assert_eq!(local, [grad[7], grad[3]]);
 //! # Ok(())
 //! # }
@@ -37,6 +37,7 @@ mod ffi;
 pub mod foliation;
 pub mod geometry;
 pub mod hinge_table;
+pub mod incidence;
 pub mod length_signs;
 pub mod lorentzian;
 pub mod lorentzian_regge;

@@ -140,7 +140,7 @@ pub fn lorentzian_regge_action_grad(complex: &Complex, sq_lengths: &[f64]) -> Re
 /// let complex = Complex::from_pentachorons(5, &[[0, 1, 2, 3, 4]])?;
 /// let hinges = lorentzian_deficit_angles(&complex, &[1.0; 10])?;
 /// let local = local_deficit_angles(&complex, &[1.0; 10], &[0])?;
-/// assert!(local.keys().eq(&complex.edge_to_tris()[0]));
+/// assert!(local.keys().eq(&complex.edge_to_tris[0]));
 /// assert!(local.iter().all(|(&tri, &hinge)| hinge == hinges[tri]));
 /// # Ok::<(), cjapthumi::Refusal>(())
 /// ```
@@ -152,7 +152,7 @@ pub fn local_deficit_angles(
     sq_lengths: &[f64],
     free_edges: &[usize],
 ) -> Result<BTreeMap<usize, (f64, HingeType)>, Refusal> {
-    let on_edges = free_edges.iter().filter_map(|&edge| complex.edge_to_tris().get(edge)).map(<[usize]>::len);
+    let on_edges = free_edges.iter().filter_map(|&edge| complex.edge_to_tris.get(edge)).map(<[usize]>::len);
     let room = on_edges.sum::<usize>().min(complex.n_triangles());
     let (mut tris, mut deficits, mut kinds, mut count) = (vec![0; room], vec![0.0; room], vec![0; room], 0);
     let free_edges = all_narrowed(free_edges);

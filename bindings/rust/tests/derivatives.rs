@@ -12,7 +12,7 @@ fn curved() -> (Complex, Vec<f64>) {
     let lattice = foliated_hypercubic(3, 3).unwrap();
     let flat = flat_minkowski_sq_lengths(&lattice, 1.0, 0.5);
     let moved = flat.iter().enumerate().map(|(edge, length)| length + 1e-3 * ((edge * 7 % 11) as f64 - 5.0));
-    (lattice.complex().clone(), moved.collect())
+    (lattice.complex.clone(), moved.collect())
 }
 
 #[test]
@@ -80,12 +80,13 @@ fn the_jacobian_is_the_difference_quotients() {
     let s = [-1.0, 1.0, 1.5, 1.0, 0.25, 0.5, 0.0, 2.0, 2.0, 2.25];
     let eps = 1e-3;
     let jac = all_lorentzian_dihedrals_jacobian(&s, eps);
-    for edge in 0..10 {
-        let moved =
-            |by: f64| all_lorentzian_dihedrals(&std::array::from_fn(|k| if k == edge { s[k] + by } else { s[k] }));
-        let (plus, minus) = (moved(eps), moved(-eps));
-        for pair in 0..10 {
-            assert_eq!(jac[pair][edge], (plus[pair].0 - minus[pair].0) / (2.0 * eps));
+    let moved = |edge: usize, by: f64| {
+        let s = std::array::from_fn(|k| if k == edge { s[k] + by } else { s[k] });
+        all_lorentzian_dihedrals(&s).map(|(value, _)| value)
+    };
+    for (pair, row) in jac.iter().enumerate() {
+        for (edge, &entry) in row.iter().enumerate() {
+            assert_eq!(entry, (moved(edge, eps)[pair] - moved(edge, -eps)[pair]) / (2.0 * eps));
         }
     }
 }

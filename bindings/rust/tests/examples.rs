@@ -65,15 +65,15 @@ fn p4_the_two_rules_at_zero() {
 #[test]
 fn p5_two_pentachorons() {
     let complex = Complex::from_pentachorons(6, &[[0, 1, 2, 3, 4], [1, 2, 3, 4, 5]]).unwrap();
-    assert_eq!((complex.n_edges(), complex.n_triangles(), complex.tets().len()), (14, 16, 9));
+    assert_eq!((complex.n_edges(), complex.n_triangles(), complex.tets.len()), (14, 16, 9));
 }
 
 #[test]
 fn p6_a_pentachoron_twice() {
     let complex = Complex::from_pentachorons(5, &[[4, 3, 2, 1, 0]; 2]).unwrap();
     assert_eq!(complex.n_edges(), 10);
-    assert_eq!(complex.tri_to_pents().len(), 10);
-    assert!(complex.tri_to_pents().iter().all(|pents| pents == [0, 1]));
+    assert_eq!(complex.tri_to_pents.len(), 10);
+    assert!(complex.tri_to_pents.iter().all(|pents| pents == [0, 1]));
 }
 
 #[test]
@@ -91,11 +91,11 @@ fn p9_roots() {
 #[test]
 fn lattices() {
     for (n_t, n_s, pents) in [(2, 2, 192), (3, 2, 576), (3, 3, 1_944), (5, 4, 7_680)] {
-        assert_eq!(foliated_hypercubic(n_t, n_s).unwrap().complex().n_pents(), pents);
+        assert_eq!(foliated_hypercubic(n_t, n_s).unwrap().complex.n_pents(), pents);
     }
     let lattice = foliated_hypercubic(3, 3).unwrap();
-    let complex = lattice.complex();
-    assert_eq!((complex.n_edges(), complex.n_triangles(), complex.tets().len()), (1_215, 4_050, 4_860));
+    let complex = &lattice.complex;
+    assert_eq!((complex.n_edges(), complex.n_triangles(), complex.tets.len()), (1_215, 4_050, 4_860));
     for (n_t, n_s) in [(6, 4), (1, 3), (usize::MAX, usize::MAX)] {
         assert_eq!(foliated_hypercubic(n_t, n_s).unwrap_err(), Refusal::LatticeSize);
     }

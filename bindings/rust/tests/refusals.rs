@@ -94,6 +94,7 @@ fn a_refused_retouch_changes_nothing() {
     let cases = [
         (13, EdgeNumber(14), &short, Refusal::LengthCount),
         (14, EdgeNumber(14), &short, Refusal::EdgeTooLarge),
+        (14, EdgeNumber(1 << 32), &table, Refusal::EdgeTooLarge),
         (14, EdgeNumber(usize::MAX), &table, Refusal::EdgeTooLarge),
         (14, EdgeNumber(0), &short, Refusal::ShortRoom),
     ];

@@ -34,10 +34,10 @@ impl Random {
 
 /// Whether each triangle lies in a pentachoron with the edge, by their vertices.
 fn touched(complex: &Complex, edge: usize) -> Vec<bool> {
-    let around = |pent: &&[usize; 5]| complex.edges()[edge].iter().all(|end| pent.contains(end));
-    let pents: Vec<&[usize; 5]> = complex.pents().iter().filter(around).collect();
+    let around = |pent: &&[usize; 5]| complex.edges[edge].iter().all(|end| pent.contains(end));
+    let pents: Vec<&[usize; 5]> = complex.pents.iter().filter(around).collect();
     let lies = |tri: &[usize; 3]| pents.iter().any(|pent| tri.iter().all(|vertex| pent.contains(vertex)));
-    complex.triangles().iter().map(lies).collect()
+    complex.triangles.iter().map(lies).collect()
 }
 
 /// Whether two records agree: the kinds are the same, the deficits have the same bits or are both NaN.
@@ -46,8 +46,8 @@ fn agree((a, kind): (f64, HingeType), (b, other): (f64, HingeType)) -> bool {
 }
 
 /// Retouches an edge and holds what is left to the rule; whether the table left is the one worked out anew.
-fn step(complex: &Complex, lengths: &mut Vec<f64>, edge: usize, new: f64, table: &mut HingeTable) -> bool {
-    let (old_lengths, old_table) = (lengths.clone(), table.clone());
+fn step(complex: &Complex, lengths: &mut [f64], edge: usize, new: f64, table: &mut HingeTable) -> bool {
+    let (old_lengths, old_table) = (lengths.to_vec(), table.clone());
     let old_anew = HingeTable::worked_out(complex, &old_lengths).unwrap();
     retouch(complex, lengths, EdgeNumber(edge), new, table).unwrap();
 
@@ -95,7 +95,7 @@ fn series(complex: &Complex, mut lengths: Vec<f64>, steps: usize) {
 fn on_lattices() {
     for (size, steps) in [((2, 2), 60), ((3, 2), 40), ((3, 3), 12)] {
         let lattice = foliated_hypercubic(size.0, size.1).unwrap();
-        series(lattice.complex(), flat_minkowski_sq_lengths(&lattice, 1.0, 0.5), steps);
+        series(&lattice.complex, flat_minkowski_sq_lengths(&lattice, 1.0, 0.5), steps);
     }
 }
 

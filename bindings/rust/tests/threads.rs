@@ -45,7 +45,7 @@ fn the_largest_complexes() {
     });
     let lattice = thread::spawn(|| {
         let lattice = foliated_hypercubic(5, 4).unwrap();
-        calls(lattice.complex(), &flat_minkowski_sq_lengths(&lattice, 1.0, 0.5)).unwrap();
+        calls(&lattice.complex, &flat_minkowski_sq_lengths(&lattice, 1.0, 0.5)).unwrap();
     });
     built.join().unwrap();
     lattice.join().unwrap();
@@ -56,7 +56,7 @@ fn one_complex_in_many_threads() {
     let lattice = &foliated_hypercubic(3, 3).unwrap();
     let lengths = &flat_minkowski_sq_lengths(lattice, 1.0, 0.5);
     let grads: Vec<Vec<u64>> = thread::scope(|scope| {
-        let call = || calls(lattice.complex(), lengths).unwrap().iter().map(|entry| entry.to_bits()).collect();
+        let call = || calls(&lattice.complex, lengths).unwrap().iter().map(|entry| entry.to_bits()).collect();
         let threads: Vec<_> = (0..8).map(|_| scope.spawn(call)).collect();
         threads.into_iter().map(|thread| thread.join().unwrap()).collect()
     });
