@@ -1,7 +1,7 @@
 /*
  * The library's functions for C: floats, the geometry of one pentachoron, complexes, lattices, hinges, action, gradient, Hessian and
  * retouch. Link target/staticlib/libexports.a, which `bindings/build` proves and builds for x86-64 Linux; it needs nothing but
- * memcpy and memset.
+ * memcpy, memmove and memset.
  *
  * What a caller keeps
  * - A list is a pointer and then its length, in elements. No pointer is null, not even one with length 0; each is aligned for its type
@@ -54,7 +54,7 @@ enum cjapthumi_refusal {
     CJAPTHUMI_VERTEX_TOO_LARGE = 3, /* a vertex of the pentachoron at the place is not below the vertex count */
     CJAPTHUMI_REPEATED_VERTEX = 4,  /* the pentachoron at the place has a vertex twice */
     CJAPTHUMI_SHORT_ROOM = 5,       /* a list that is to be written is too short */
-    CJAPTHUMI_LATTICE_SIZE = 6,     /* n_t or n_s is outside 2..8, or n_t * n_s^3 is above 341 */
+    CJAPTHUMI_LATTICE_SIZE = 6,     /* n_t or n_s is not from 2 to 8, or n_t * n_s^3 is above 341 */
     CJAPTHUMI_NOT_BUILT = 7,        /* the counts or lists are not those of a built complex, or not of that lattice's */
     CJAPTHUMI_LENGTH_COUNT = 8,     /* there are not as many squared lengths as edges */
     CJAPTHUMI_EDGE_TOO_LARGE = 9,   /* an edge number is not below the number of edges */

@@ -24,6 +24,11 @@ fn kind(kind: HingeType) -> f64 {
     }
 }
 
+/// How long the longest of some lists is.
+fn longest(lists: &[Vec<usize>]) -> usize {
+    lists.iter().map(Vec::len).max().unwrap_or(0)
+}
+
 /// All that a complex has in its fields, as lists.
 pub fn fields(complex: &SimplicialComplex) -> Vec<Vec<usize>> {
     let mut fields = vec![
@@ -43,10 +48,8 @@ pub fn fields(complex: &SimplicialComplex) -> Vec<Vec<usize>> {
         fields.push([[a, b], [b, a]].map(|edge| usize::from(complex.edge_index.contains_key(&edge))).to_vec());
     }
     for lists in [&complex.tri_to_pents, &complex.edge_to_tris, &complex.edge_to_pents] {
-        fields.push(vec![lists.len()]);
-        for list in lists {
-            fields.push(list.to_vec());
-        }
+        fields.push(vec![lists.len(), longest(lists)]);
+        fields.extend(lists.clone());
     }
     for pent in 0..complex.n_pents() {
         fields.push(complex.pent_edge_indices(pent).to_vec());

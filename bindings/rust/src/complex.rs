@@ -2,6 +2,7 @@
 use crate::ffi::{self, BuiltLists, Lists};
 use crate::incidence::Incidence;
 use crate::refusal::{Refusal, answered_at};
+use std::fmt;
 use std::ops::Deref;
 use std::sync::Arc;
 
@@ -48,15 +49,25 @@ const ROOMS: [(usize, usize); 10] =
 /// # Ok::<(), cjapthumi::Refusal>(())
 /// ```
 ///
-/// Nothing changes a complex once it is built, and the calls over it rely on that. So this does not compile:
+/// Nothing changes a complex once it is built, and the calls over it rely on that. A copy of what is read can be changed:
+///
+/// ```
+/// # use cjapthumi::Complex;
+/// let mut complex = Complex::from_pentachorons(5, &[[0, 1, 2, 3, 4]]).unwrap();
+/// let mut edges = complex.edges.clone();
+/// edges[0] = [0, 2];
+/// # complex = complex.clone();
+/// ```
+///
+/// This does not compile:
 ///
 /// ```compile_fail
-/// use cjapthumi::Complex;
-///
+/// # use cjapthumi::Complex;
 /// let mut complex = Complex::from_pentachorons(5, &[[0, 1, 2, 3, 4]]).unwrap();
-/// complex.edges[0] = [0, 2];
+/// let edges = &mut complex.edges;
+/// edges[0] = [0, 2];
 /// ```
-#[derive(Debug, Clone)]
+#[derive(Clone)]
 pub struct Complex {
     /// What the library is lent: counts, the ten lists, and each pentachoron's edges and triangles.
     counts: [usize; 5],
@@ -76,8 +87,15 @@ impl Deref for Complex {
     }
 }
 
+impl fmt::Debug for Complex {
+    fn fmt(&self, f: &mut fmt::Formatter<'_>) -> fmt::Result {
+        self.incidence.fmt(f)
+    }
+}
+
 impl Complex {
-    /// Builds the complex of a list of pentachorons, five vertices each, in any order; a repeated pentachoron stays.
+    /// Builds the complex of a list of pentachorons, five vertices each, in any order; a repeated pentachoron stays. It may have 1 to
+    /// 4,096 vertices and up to 8,192 pentachorons.
     ///
     /// # Errors
     /// [`Refusal::VertexCount`], [`Refusal::ListLength`], then for the earliest pentachoron that has it [`Refusal::VertexTooLarge`]

@@ -14,7 +14,7 @@ pub fn root(x: f64) -> f64 {
 /// The natural logarithm.
 ///
 /// ```
-/// assert_eq!(cjapthumi::fdlibm::log(1.0), 0.0);
+/// assert_eq!(cjapthumi::fdlibm::log(2.0).to_bits(), 0x3fe62e42fefa39ef);
 /// ```
 pub fn log(x: f64) -> f64 {
     ffi::cjapthumi_log(x)
@@ -23,7 +23,7 @@ pub fn log(x: f64) -> f64 {
 /// The logarithm of 1 + x.
 ///
 /// ```
-/// assert_eq!(cjapthumi::fdlibm::log1p(1e-300), 1e-300);
+/// assert_eq!(cjapthumi::fdlibm::log1p(2.0).to_bits(), 0x3ff193ea7aad030a);
 /// ```
 pub fn log1p(x: f64) -> f64 {
     ffi::cjapthumi_log1p(x)
@@ -41,7 +41,7 @@ pub fn acos(x: f64) -> f64 {
 /// The inverse hyperbolic cosine.
 ///
 /// ```
-/// assert_eq!(cjapthumi::fdlibm::acosh(1.0), 0.0);
+/// assert_eq!(cjapthumi::fdlibm::acosh(2.0).to_bits(), 0x3ff5124271980434);
 /// ```
 pub fn acosh(x: f64) -> f64 {
     ffi::cjapthumi_acosh(x)
@@ -50,7 +50,7 @@ pub fn acosh(x: f64) -> f64 {
 /// The inverse hyperbolic sine.
 ///
 /// ```
-/// assert_eq!(cjapthumi::fdlibm::asinh(-0.0).to_bits(), (-0.0f64).to_bits());
+/// assert_eq!(cjapthumi::fdlibm::asinh(1.0).to_bits(), 0x3fec34366179d427);
 /// ```
 pub fn asinh(x: f64) -> f64 {
     ffi::cjapthumi_asinh(x)

@@ -26,12 +26,18 @@ impl EdgeType {
     }
 }
 
-/// A lattice's complex with its slices and the types of its edges; what there is to read are the fields of [`Foliation`], as
-/// `lattice.complex` and `lattice.edge_types`, which nothing changes. So this does not compile:
+/// A lattice's complex with its slices and the types of its edges. What there is to read are the fields of [`Foliation`], as
+/// `lattice.complex` and `lattice.edge_types`; nothing changes them. A lattice can be put in another's place, its complex can't:
+///
+/// ```
+/// # use cjapthumi::foliation::foliated_hypercubic;
+/// let (mut lattice, other) = (foliated_hypercubic(2, 2).unwrap(), foliated_hypercubic(3, 3).unwrap());
+/// lattice = other.clone();
+/// assert_eq!(lattice.complex.n_pents(), 1_944);
+/// ```
 ///
 /// ```compile_fail
-/// use cjapthumi::foliation::foliated_hypercubic;
-///
+/// # use cjapthumi::foliation::foliated_hypercubic;
 /// let (mut lattice, other) = (foliated_hypercubic(2, 2).unwrap(), foliated_hypercubic(3, 3).unwrap());
 /// lattice.complex = other.complex.clone();
 /// ```
@@ -109,7 +115,7 @@ impl FoliatedComplex {
 }
 
 /// The periodic lattice of `n_t` steps in time and `n_s` in each direction of space, each cell cut into 24 pentachorons. Vertex
-/// (t, x, y, z) has the number `t + n_t * (x + n_s * (y + n_s * z))`.
+/// (t, x, y, z) has the number `t + n_t * (x + n_s * (y + n_s * z))`. Both sizes are from 2 to 8, with at most 341 cells, `n_t * n_s^3`.
 ///
 /// ```
 /// use cjapthumi::foliation::foliated_hypercubic;

@@ -1,80 +1,9 @@
 //! What a complex has to read: its faces, their numbers, and which lie in which.
 use crate::complex::{Edge, Pent, Tet, Triangle};
 use std::collections::{BTreeMap, btree_map};
-use std::ops::{Deref, Index, Range};
+use std::fmt;
+use std::ops::Deref;
 use std::sync::{Arc, OnceLock};
-
-/// For each face the numbers of those in which it lies, ascending; list `k` is `adjacency[k]`.
-#[derive(Debug, Clone, PartialEq, Eq)]
-pub struct Adjacency {
-    items: Vec<usize>,
-    starts: Vec<usize>,
-}
-
-impl Adjacency {
-    /// The lists that stand in the library's items and starts.
-    fn new(items: &[u32], starts: &[u32]) -> Adjacency {
-        Adjacency { items: widened(items), starts: widened(starts) }
-    }
-
-    /// How many lists there are.
-    pub fn len(&self) -> usize {
-        self.starts.len() - 1
-    }
-
-    /// Whether there are none.
-    pub fn is_empty(&self) -> bool {
-        self.len() == 0
-    }
-
-    /// The list of a face, if there is one of this number.
-    pub fn get(&self, face: usize) -> Option<&[usize]> {
-        (face < self.len()).then(|| &self[face])
-    }
-
-    /// The lists in the order of the faces.
-    pub fn iter(&self) -> AdjacencyIter<'_> {
-        AdjacencyIter { lists: self, faces: 0..self.len() }
-    }
-}
-
-impl Index<usize> for Adjacency {
-    type Output = [usize];
-
-    fn index(&self, face: usize) -> &[usize] {
-        &self.items[self.starts[face]..self.starts[face + 1]]
-    }
-}
-
-impl<'a> IntoIterator for &'a Adjacency {
-    type Item = &'a [usize];
-    type IntoIter = AdjacencyIter<'a>;
-
-    fn into_iter(self) -> AdjacencyIter<'a> {
-        self.iter()
-    }
-}
-
-/// The lists of an [`Adjacency`] in the order of the faces.
-#[derive(Debug, Clone)]
-pub struct AdjacencyIter<'a> {
-    lists: &'a Adjacency,
-    faces: Range<usize>,
-}
-
-impl<'a> Iterator for AdjacencyIter<'a> {
-    type Item = &'a [usize];
-
-    fn next(&mut self) -> Option<&'a [usize]> {
-        self.faces.next().map(|face| &self.lists[face])
-    }
-
-    fn size_hint(&self) -> (usize, Option<usize>) {
-        self.faces.size_hint()
-    }
-}
-
-impl ExactSizeIterator for AdjacencyIter<'_> {}
 
 /// The number of each face by its vertices: a map, worked out when it is first asked for.
 ///
@@ -86,7 +15,7 @@ impl ExactSizeIterator for AdjacencyIter<'_> {}
 /// assert_eq!(complex.edge_index.get(&[4, 3]), None);
 /// # Ok::<(), cjapthumi::Refusal>(())
 /// ```
-#[derive(Debug, Clone)]
+#[derive(Clone)]
 pub struct FaceIndex<const N: usize> {
     rows: Arc<Vec<u32>>,
     numbers: OnceLock<BTreeMap<[usize; N], usize>>,
@@ -104,6 +33,20 @@ impl<const N: usize> Deref for FaceIndex<N> {
 
     fn deref(&self) -> &BTreeMap<[usize; N], usize> {
         self.numbers.get_or_init(|| rows(&self.rows).into_iter().zip(0..).collect())
+    }
+}
+
+impl<const N: usize> PartialEq for FaceIndex<N> {
+    fn eq(&self, other: &FaceIndex<N>) -> bool {
+        self.rows == other.rows
+    }
+}
+
+impl<const N: usize> Eq for FaceIndex<N> {}
+
+impl<const N: usize> fmt::Debug for FaceIndex<N> {
+    fn fmt(&self, f: &mut fmt::Formatter<'_>) -> fmt::Result {
+        (**self).fmt(f)
     }
 }
 
@@ -136,12 +79,12 @@ pub struct Incidence {
     pub tet_index: FaceIndex<4>,
     /// The pentachorons, in the order in which they were given.
     pub pents: Vec<Pent>,
-    /// For each triangle the pentachorons in which it lies.
-    pub tri_to_pents: Adjacency,
-    /// For each edge the triangles in which it lies.
-    pub edge_to_tris: Adjacency,
-    /// For each edge the pentachorons in which it lies.
-    pub edge_to_pents: Adjacency,
+    /// For each triangle the pentachorons in which it lies, ascending.
+    pub tri_to_pents: Vec<Vec<usize>>,
+    /// For each edge the triangles in which it lies, ascending.
+    pub edge_to_tris: Vec<Vec<usize>>,
+    /// For each edge the pentachorons in which it lies, ascending.
+    pub edge_to_pents: Vec<Vec<usize>>,
 }
 
 impl Incidence {
@@ -156,16 +99,17 @@ impl Incidence {
             tets: rows(&lists[3]),
             tet_index: FaceIndex::new(&lists[3]),
             pents: rows(&lists[0]),
-            tri_to_pents: Adjacency::new(&lists[4], &lists[5]),
-            edge_to_tris: Adjacency::new(&lists[6], &lists[7]),
-            edge_to_pents: Adjacency::new(&lists[8], &lists[9]),
+            tri_to_pents: adjacency(&lists[4], &lists[5]),
+            edge_to_tris: adjacency(&lists[6], &lists[7]),
+            edge_to_pents: adjacency(&lists[8], &lists[9]),
         }
     }
 }
 
-/// Numbers of the library for the reader.
-fn widened(numbers: &[u32]) -> Vec<usize> {
-    numbers.iter().map(|&number| number as usize).collect()
+/// The lists that stand in the library's items and starts, for the reader.
+fn adjacency(items: &[u32], starts: &[u32]) -> Vec<Vec<usize>> {
+    let list = |ends: &[u32]| items[ends[0] as usize..ends[1] as usize].iter().map(|&item| item as usize).collect();
+    starts.windows(2).map(list).collect()
 }
 
 /// The rows of a list, for the reader.

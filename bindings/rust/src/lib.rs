@@ -1,16 +1,17 @@
 //! Lorentzian Regge calculus, 4D simplicial gravity on signed squared lengths, by a library whose every function is proved to meet its
 //! contract.
 //!
-//! Modules, functions and arguments have the names of the crate phyz-regge, so that a program moves by changing its imports. What
-//! differs:
+//! Modules, functions, arguments and fields have the names of the crate phyz-regge, so that a program moves by changing its imports.
+//! What differs:
 //!
-//! - A call that breaks a condition is refused with a [`Refusal`] where phyz-regge panics or answers in silence: a list of lengths of
-//!   the wrong count, an edge number that is too large, a free edge given twice. A refused call changes nothing. Every other call
-//!   answers, NaN and infinite lengths included.
+//! - A call into the library that breaks a condition is refused with a [`Refusal`] where phyz-regge panics or answers in silence: a
+//!   list of lengths of the wrong count, an edge number that is too large, a free edge given twice. A refused call changes nothing.
+//!   Every other call answers, NaN and infinite lengths included. What is only looked up, in a complex, a lattice or a matrix, panics
+//!   out of range, as there.
+//! - Sizes have limits: 4,096 vertices, 8,192 pentachorons, lattices of at most 341 cells.
 //! - An answer has the same bits each time: nothing is summed in hash order, and a free edge's local gradient is its entry of the
 //!   global one.
-//! - [`Complex`], under its other name [`complex::SimplicialComplex`], keeps its lists to itself: what are fields there are methods
-//!   here, `complex.edges` for `complex.edges`.
+//! - The fields of a [`Complex`], whose other name is [`SimplicialComplex`], and of a lattice can be read, not changed.
 //! - [`retouch`](retouch::retouch) brings a table of hinges up to date after one length has changed.
 //!
 //! ```
@@ -28,8 +29,12 @@
 //! # }
 //! ```
 //!
-//! A complex is built by the library's builder and checked once; the calls over it then make no check of their own. All types can be
-//! sent to threads and shared between them, and the default stack of a thread suffices.
+//! A complex is built by the library's builder and checked once; the calls over it do not check it again. All types can be sent to
+//! threads and shared between them. The default stack of a thread, 2 MiB, suffices: building takes 1.69 MiB of it, the other calls at
+//! most 1.06.
+
+#[cfg(not(all(target_arch = "x86_64", target_os = "linux")))]
+compile_error!("the libraries that cjapthumi links are for x86-64 Linux");
 
 pub mod complex;
 pub mod fdlibm;
@@ -45,5 +50,5 @@ pub mod matrix;
 pub mod refusal;
 pub mod retouch;
 
-pub use complex::Complex;
+pub use complex::{Complex, SimplicialComplex};
 pub use refusal::Refusal;

@@ -3,6 +3,9 @@
 use crate::ffi;
 use crate::refusal::{Refusal, answered};
 
+/// A squared length with its sign.
+pub type SignedLengthSq = f64;
+
 /// The kind of a hinge or of a dihedral.
 #[derive(Debug, Clone, Copy, PartialEq, Eq, Hash)]
 pub enum HingeType {

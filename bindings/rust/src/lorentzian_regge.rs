@@ -152,7 +152,7 @@ pub fn local_deficit_angles(
     sq_lengths: &[f64],
     free_edges: &[usize],
 ) -> Result<BTreeMap<usize, (f64, HingeType)>, Refusal> {
-    let on_edges = free_edges.iter().filter_map(|&edge| complex.edge_to_tris.get(edge)).map(<[usize]>::len);
+    let on_edges = free_edges.iter().filter_map(|&edge| complex.edge_to_tris.get(edge)).map(Vec::len);
     let room = on_edges.sum::<usize>().min(complex.n_triangles());
     let (mut tris, mut deficits, mut kinds, mut count) = (vec![0; room], vec![0.0; room], vec![0; room], 0);
     let free_edges = all_narrowed(free_edges);

@@ -1,7 +1,9 @@
 //! Square matrices of doubles.
-use std::ops::Index;
+use std::ops::{Index, IndexMut};
 
-/// A square matrix; its entry in row i and column j is `matrix[(i, j)]`.
+/// A square matrix; its entry in row i and column j is `matrix[(i, j)]`, which panics outside the matrix.
+///
+/// phyz_math has it from its rows: `DMat::from_row_slice(h.nrows(), h.ncols(), h.as_row_slice())`.
 #[derive(Debug, Clone, PartialEq)]
 pub struct DMat {
     size: usize,
@@ -12,6 +14,12 @@ impl DMat {
     /// The matrix of this size whose entries stand row after row.
     pub(crate) fn from_rows(size: usize, entries: Vec<f64>) -> DMat {
         DMat { size, entries }
+    }
+
+    /// The place of an entry.
+    fn place(&self, (row, col): (usize, usize)) -> usize {
+        assert!(row < self.size && col < self.size, "({row}, {col}) is outside a matrix of size {}", self.size);
+        row * self.size + col
     }
 
     /// How many rows there are.
@@ -33,8 +41,14 @@ impl DMat {
 impl Index<(usize, usize)> for DMat {
     type Output = f64;
 
-    fn index(&self, (row, col): (usize, usize)) -> &f64 {
-        assert!(row < self.size && col < self.size, "({row}, {col}) is outside a matrix of size {}", self.size);
-        &self.entries[row * self.size + col]
+    fn index(&self, at: (usize, usize)) -> &f64 {
+        &self.entries[self.place(at)]
+    }
+}
+
+impl IndexMut<(usize, usize)> for DMat {
+    fn index_mut(&mut self, at: (usize, usize)) -> &mut f64 {
+        let place = self.place(at);
+        &mut self.entries[place]
     }
 }

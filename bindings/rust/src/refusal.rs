@@ -25,13 +25,13 @@ pub enum Refusal {
     VertexTooLarge(usize),
     /// 4: this pentachoron has a vertex twice.
     RepeatedVertex(usize),
-    /// 5: a table or an output has too few places.
+    /// 5: a table or an output has too few places; here, a retouched table has fewer records than there are triangles.
     ShortRoom,
-    /// 6: a lattice's `n_t` or `n_s` is outside 2..8, or `n_t * n_s^3` is above 341.
+    /// 6: a lattice's `n_t` or `n_s` is not from 2 to 8, or `n_t * n_s^3` is above 341.
     LatticeSize,
     /// 7: counts or lists are not those of a built complex. No call of this crate meets it: its complexes are built.
     NotBuilt,
-    /// 8: there are not as many squared lengths as edges.
+    /// 8: the number of squared lengths is not the number of edges.
     LengthCount,
     /// 9: an edge number is not below the number of edges.
     EdgeTooLarge,
@@ -39,9 +39,9 @@ pub enum Refusal {
     RepeatedEdge,
     /// 11: a row, a column, a vertex of a pentachoron or a triangle number is out of range, or two vertices are the same.
     BadIndex,
-    /// 12, of the program: its input is cut short, has a pad bit set, or does not end with its lengths.
+    /// 12, of the program `regge`, met by no call of this crate: its input is cut short, has a pad bit set, or does not end with its lengths.
     BadInput,
-    /// 13, of the program: its input has more than 64 pentachorons.
+    /// 13, of the program `regge`, met by no call of this crate: its input has more than 64 pentachorons.
     TooManyPentachorons,
 }
 
@@ -92,7 +92,7 @@ impl Refusal {
         }
     }
 
-    /// The number of the pentachoron that is at fault, 0 where none is.
+    /// The number of the pentachoron that is at fault in a refusal 3 or 4, else 0.
     pub fn place(self) -> usize {
         match self {
             Refusal::VertexTooLarge(pentachoron) | Refusal::RepeatedVertex(pentachoron) => pentachoron,
@@ -113,10 +113,10 @@ impl fmt::Display for Refusal {
             Refusal::RepeatedVertex(pentachoron) => write!(f, "pentachoron {pentachoron} has a vertex twice"),
             Refusal::ShortRoom => write!(f, "a table or an output has too few places"),
             Refusal::LatticeSize => {
-                write!(f, "the lattice's n_t or n_s is outside 2..8, or its n_t * n_s^3 is above 341")
+                write!(f, "the lattice's n_t or n_s is not from 2 to 8, or its n_t * n_s^3 is above 341")
             }
             Refusal::NotBuilt => write!(f, "the counts or lists are not those of a built complex"),
-            Refusal::LengthCount => write!(f, "there are not as many squared lengths as edges"),
+            Refusal::LengthCount => write!(f, "the number of squared lengths is not the number of edges"),
             Refusal::EdgeTooLarge => write!(f, "an edge number is not below the number of edges"),
             Refusal::RepeatedEdge => write!(f, "a free edge is given twice"),
             Refusal::BadIndex => write!(

@@ -65,6 +65,24 @@ fn rows_and_columns_come_in_the_order_of_the_free_edges() {
 }
 
 #[test]
+fn a_hessian_can_be_shifted() {
+    let (complex, lengths) = curved();
+    let mut hessian = local_lorentzian_regge_hessian(&complex, &lengths, &[3, 5], 1e-3).unwrap();
+    let before = hessian.clone();
+    hessian[(1, 0)] += 1.0;
+    assert_eq!(hessian[(1, 0)], before[(1, 0)] + 1.0);
+    assert_eq!([(0, 0), (0, 1), (1, 1)].map(|at| hessian[at]), [(0, 0), (0, 1), (1, 1)].map(|at| before[at]));
+}
+
+#[test]
+#[should_panic(expected = "(0, 2) is outside a matrix of size 2")]
+fn a_column_outside_is_no_entry_of_the_next_row() {
+    let (complex, lengths) = curved();
+    let hessian = local_lorentzian_regge_hessian(&complex, &lengths, &[3, 5], 1e-3).unwrap();
+    assert_eq!(hessian[(0, 2)], hessian[(1, 0)]);
+}
+
+#[test]
 fn a_row_whose_areas_do_not_change_needs_no_dihedral() {
     // The squared length 2 of edge 01 is the sum of the other two in each of its triangles, so no area has a derivative by it.
     let lengths = [2.0, 1.0, 1.0, 1.0, 1.0, 1.0, 1.0, 1.0, 1.0, 1.0];

@@ -73,7 +73,7 @@ fn p6_a_pentachoron_twice() {
     let complex = Complex::from_pentachorons(5, &[[4, 3, 2, 1, 0]; 2]).unwrap();
     assert_eq!(complex.n_edges(), 10);
     assert_eq!(complex.tri_to_pents.len(), 10);
-    assert!(complex.tri_to_pents.iter().all(|pents| pents == [0, 1]));
+    assert!(complex.tri_to_pents.iter().all(|pents| *pents == [0, 1]));
 }
 
 #[test]

@@ -67,16 +67,14 @@ fn of_no_pentachorons() {
 }
 
 #[test]
-fn walked_and_counted() {
-    let complex = Complex::from_pentachorons(6, &[[0, 1, 2, 3, 4], [1, 2, 3, 4, 5]]).unwrap();
-    let lists = [&complex.tri_to_pents, &complex.edge_to_tris, &complex.edge_to_pents];
-    for (lists, count) in lists.into_iter().zip([16, 14, 14]) {
-        assert_eq!([lists.len(), lists.iter().len(), lists.into_iter().count()], [count; 3]);
-        assert!(lists.into_iter().enumerate().all(|(face, list)| lists.get(face) == Some(list)));
-    }
+fn numbers_of_edges_as_a_map() {
+    let pents = [[0, 1, 2, 3, 4], [1, 2, 3, 4, 5]];
+    let [complex, other] = [&pents[..], &pents[..1]].map(|pents| Complex::from_pentachorons(6, pents).unwrap());
     let walked: Vec<_> = (&complex.edge_index).into_iter().map(|(&edge, &number)| (edge, number)).collect();
     assert!(walked.is_sorted() && walked.len() == 14);
     assert!(walked.into_iter().all(|(edge, number)| complex.edges[number] == edge));
+    assert!(complex.edge_index == complex.clone().edge_index && complex.edge_index != other.edge_index);
+    assert_eq!(format!("{:?}", other.tet_index), format!("{:?}", *other.tet_index));
 }
 
 #[test]

@@ -1,5 +1,6 @@
 //! Every refusal that a call can meet, the order of the checks, and that a refused call changes nothing.
 use cjapthumi::complex::{EdgeNumber, TriangleNumber};
+use cjapthumi::foliation::foliated_hypercubic;
 use cjapthumi::geometry::cofactor_6x6;
 use cjapthumi::hinge_table::HingeTable;
 use cjapthumi::lorentzian::{lorentzian_dihedral, tri_area_sq_grad_in_pent};
@@ -31,6 +32,13 @@ fn the_builder() {
     assert_eq!(refused(5, &[[0, 1, 2, 3, 1 << 32]]), Refusal::VertexTooLarge(0));
     assert_eq!(refused(5, &[[0, usize::MAX, usize::MAX, 2, 3]]), Refusal::VertexTooLarge(0));
     assert_eq!(Complex::from_pentachorons(4_096, &[]).unwrap().n_edges(), 0);
+}
+
+#[test]
+fn lattices() {
+    for size in [(1, 2), (2, 1), (9, 2), (2, 9), (6, 4), (0, 0), (usize::MAX, 2), (2, usize::MAX), (1 << 63, 1 << 63)] {
+        assert_eq!(foliated_hypercubic(size.0, size.1).unwrap_err(), Refusal::LatticeSize, "{size:?}");
+    }
 }
 
 #[test]

@@ -128,4 +128,6 @@ fn tables_are_equal_by_kinds_and_bits() {
     assert_ne!(zero, table(0.0, HingeType::Spacelike));
     assert_ne!(zero, zero.iter().take(1).collect());
     assert_eq!(table(f64::NAN, HingeType::Timelike), table(-f64::NAN, HingeType::Timelike));
+    assert_eq!((zero.len(), zero.is_empty(), zero.deficits()), (2, false, &[1.0, 0.0][..]));
+    assert!(HingeTable::from_iter([]).is_empty());
 }

@@ -21,6 +21,7 @@ fn calls(complex: &Complex, lengths: &[f64]) -> Result<Vec<f64>, Refusal> {
     let free: Vec<usize> = (0..complex.n_edges()).step_by(complex.n_edges() / 50 + 1).collect();
     let hinges = lorentzian_deficit_angles(complex, lengths)?;
     let tri = hinges.len() - 1;
+    assert_eq!(complex.tri_index[&complex.triangles[tri]], tri);
     assert_eq!(lorentzian_deficit_angle(complex, lengths, TriangleNumber(tri))?, hinges[tri]);
     assert!(lorentzian_regge_action(complex, lengths)?.is_finite());
     let grad = lorentzian_regge_action_grad(complex, lengths)?;
