@@ -1,5 +1,6 @@
 //! Compares the Rust crate of bindings/rust with the altered Rust: what it builds, what it answers, and its refusals with the table.
 mod complexes;
+mod floats;
 mod over;
 mod programs;
 mod report;
@@ -53,6 +54,7 @@ fn lattices(report: &mut Report) {
 fn main() -> ExitCode {
     let begin = Instant::now();
     let mut report = Report::default();
+    floats::compare(&mut report);
     simplices::compare(&mut report);
     complexes::defects(&mut report);
     complexes::unlawful(&mut report);

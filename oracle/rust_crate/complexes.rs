@@ -40,7 +40,7 @@ pub fn build(
 ) -> Option<Complex> {
     let complex = Complex::from_pentachorons(n_vertices, pents);
     let about = || format!("{n_vertices} vertices, {} pentachorons", pents.len());
-    report.call(about, complex.as_ref().map(ours).map_err(Refusal::clone), due.map(rust));
+    report.call("Complex", about, complex.as_ref().map(ours).map_err(Refusal::clone), due.map(rust));
     complex.ok()
 }
 
@@ -66,13 +66,14 @@ pub fn of_lattice(report: &mut Report, size: sizes::Size) -> (FoliatedComplex, S
     let complex = SimplicialComplex::from_pentachorons(n_vertices, &as_rust(&pents));
     let found = foliated_hypercubic(size.0, size.1);
     let told = found.as_ref().map(|lattice| ours(&lattice.complex)).map_err(Refusal::clone);
-    report.call(|| format!("lattice {size:?}"), told, Ok(rust(&complex)));
+    report.call("foliated_hypercubic", || format!("{size:?}"), told, Ok(rust(&complex)));
     let (found, unaltered) = (found.unwrap(), phyz_regge::foliation::foliated_hypercubic(size.0, size.1));
     for (spacing, dt) in [(1.0, 0.5), (0.3, -2.0), (f64::NAN, 1.0), (1e200, f64::INFINITY)] {
         let (told, lengths) = programs::ours::slices(&found, spacing, dt);
-        let (due, due_lengths) = programs::rust::slices(&unaltered, spacing, dt);
-        let (told, due) = ((told, all_bits(&lengths)), (due, all_bits(&due_lengths)));
-        report.plain(|| format!("slices of {size:?}, {spacing:?}, {dt:?}"), told, due);
+        let (due_told, due) = programs::rust::slices(&unaltered, spacing, dt);
+        let about = || format!("{size:?}, {spacing:?}, {dt:?}");
+        report.plain("FoliatedComplex", about, told, due_told);
+        report.plain("flat_minkowski_sq_lengths", about, all_bits(&lengths), all_bits(&due));
     }
     (found, complex)
 }
@@ -81,6 +82,6 @@ pub fn of_lattice(report: &mut Report, size: sizes::Size) -> (FoliatedComplex, S
 pub fn unlawful(report: &mut Report) {
     for (n_t, n_s) in sizes::unlawful(&mut Random::of_round(2_200)) {
         let ours = foliated_hypercubic(n_t, n_s).map(|lattice| lattice.complex.n_pents());
-        report.call(|| format!("lattice {n_t}, {n_s}"), ours, Err((6, 0)));
+        report.call("foliated_hypercubic", || format!("{n_t}, {n_s}"), ours, Err((6, 0)));
     }
 }

@@ -41,13 +41,12 @@ pub fn compare(
     free: &[usize],
     fd_eps: f64,
 ) {
-    let about = |name: &str| format!("the program's {name} of lengths {lengths:?}, free {free:?}, step {fd_eps:?}");
+    let about = || format!("lengths {lengths:?}, free {free:?}, step {fd_eps:?}");
     let [found, due] = [ours::geometry(complex, lengths), rust::geometry(rust, lengths)];
-    report.plain(|| about("geometry"), all_bits(&found), all_bits(&due));
+    report.plain("program_geometry", about, all_bits(&found), all_bits(&due));
     let found = ours::descent(complex, lengths.to_vec(), free, STEPS);
     let due = rust::descent(rust, lengths.to_vec(), free, STEPS);
-    report.plain(|| about("descent"), all_bits(&found), all_bits(&due));
-    let found = ours::newton(complex, lengths, free, fd_eps);
-    let due = rust::newton(rust, lengths, free, fd_eps);
-    report.plain(|| about("Newton step"), all_bits(&found), all_bits(&due));
+    report.plain("program_descent", about, all_bits(&found), all_bits(&due));
+    let [found, due] = [ours::newton(complex, lengths, free, fd_eps), rust::newton(rust, lengths, free, fd_eps)];
+    report.plain("program_newton", about, all_bits(&found), all_bits(&due));
 }

@@ -1,18 +1,26 @@
-//! How many calls of the crate were compared, and how many differ.
+//! How many calls of each function of the crate were compared, and how many differ.
 use calls::differences::Differences;
 use calls::table;
 use cjapthumi::Refusal;
+use std::collections::BTreeMap;
 use std::fmt::Debug;
 
 /// A refusal's number and place.
 pub type Refused = (u32, usize);
 
-/// The counts.
+/// How many calls of a function were compared, how many of them were to be answered, and how many differ.
 #[derive(Default)]
-pub struct Report {
+struct Counts {
     calls: u64,
     answered: u64,
-    pub differences: Differences,
+    differences: u64,
+}
+
+/// The counts of each function, or of a type with methods, and the differences that are printed.
+#[derive(Default)]
+pub struct Report {
+    counts: BTreeMap<&'static str, Counts>,
+    differences: Differences,
 }
 
 /// A number's bits; those of one NaN for every NaN.
@@ -26,31 +34,46 @@ pub fn all_bits(numbers: &[f64]) -> Vec<u64> {
 }
 
 impl Report {
-    /// Compares what a call gave, in a form in which equal answers are the same, with what is due.
-    pub fn call<T: PartialEq + Debug>(
-        &mut self,
-        about: impl FnOnce() -> String,
-        ours: Result<T, Refusal>,
-        due: Result<T, Refused>,
-    ) {
-        self.calls += 1;
-        self.answered += u64::from(due.is_ok());
-        let ours = ours.map_err(|refusal| (refusal.number(), refusal.place()));
-        if ours != due {
-            self.differences.add(&format!("{}\n  ours {ours:?}\n  due {due:?}", about()));
+    /// Counts a call of a function, and what differs if anything does.
+    fn count(&mut self, name: &'static str, is_answered: bool, difference: Option<String>) {
+        let counts = self.counts.entry(name).or_default();
+        counts.calls += 1;
+        counts.answered += u64::from(is_answered);
+        if let Some(difference) = difference {
+            counts.differences += 1;
+            self.differences.add(&format!("{name}, {difference}"));
         }
     }
 
+    /// Compares what a call gave, in a form in which equal answers are the same, with what is due; a refusal also with what is made of
+    /// its number and place.
+    pub fn call<T: PartialEq + Debug>(
+        &mut self,
+        name: &'static str,
+        about: impl Fn() -> String,
+        ours: Result<T, Refusal>,
+        due: Result<T, Refused>,
+    ) {
+        if let Err(refusal) = ours {
+            let again = Refusal::from_number(refusal.number(), refusal.place());
+            self.count("Refusal", true, (again != Some(refusal)).then(|| format!("{refusal:?} is made {again:?}")));
+        }
+        let ours = ours.map_err(|refusal| (refusal.number(), refusal.place()));
+        let difference = (ours != due).then(|| format!("{}\n  ours {ours:?}\n  due {due:?}", about()));
+        self.count(name, due.is_ok(), difference);
+    }
+
     /// Compares a call that is never refused.
-    pub fn plain<T: PartialEq + Debug>(&mut self, about: impl FnOnce() -> String, ours: T, due: T) {
-        self.call(about, Ok(ours), Ok(due));
+    pub fn plain<T: PartialEq + Debug>(&mut self, name: &'static str, about: impl Fn() -> String, ours: T, due: T) {
+        self.call(name, about, Ok(ours), Ok(due));
     }
 
     /// Prints the counts; how many calls differ.
     pub fn print(&self) -> u64 {
-        let Report { calls, answered, differences } = self;
-        println!("{calls} calls of the crate: {answered} answered, {} refused", calls - answered);
-        table::calls("rust_crate", *calls, *answered, differences.0);
-        differences.0
+        for (name, Counts { calls, answered, differences }) in &self.counts {
+            println!("{calls} calls of {name}: {answered} answered, {} refused", calls - answered);
+            table::calls(&format!("crate_{name}"), *calls, *answered, *differences);
+        }
+        self.differences.0
     }
 }
