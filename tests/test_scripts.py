@@ -1,8 +1,10 @@
 #!/usr/bin/env python3
-"""Tests of regge, regge-pack and what they share. Only the class Program needs the built program."""
+"""Tests of regge, regge-pack and what they share, and of the table of oracle/compare. Only the class Program needs the built program."""
 
+import contextlib
 import importlib.machinery
 import importlib.util
+import io
 import os
 import random
 import shutil
@@ -71,15 +73,16 @@ SPECIAL_LENGTHS = [
 ]
 
 
-def load_regge():
-    """The script regge as a module."""
-    loader = importlib.machinery.SourceFileLoader("regge", str(ROOT / "regge"))
-    module = importlib.util.module_from_spec(importlib.util.spec_from_loader("regge", loader))
+def load(name, path):
+    """A script as a module."""
+    loader = importlib.machinery.SourceFileLoader(name, str(ROOT / path))
+    module = importlib.util.module_from_spec(importlib.util.spec_from_loader(name, loader))
     loader.exec_module(module)
     return module
 
 
-regge = load_regge()
+regge = load("regge", "regge")
+compare = load("compare", "oracle/compare")
 
 
 def run(script, *arguments, data=b"", **options):
@@ -483,6 +486,63 @@ class ReggeScript(unittest.TestCase):
 class BuiltInExample(unittest.TestCase):
     def test_bytes(self):
         self.assertEqual(STDIN.read_bytes(), EXAMPLE)
+
+
+def table_lines():
+    """Lines for the table of oracle/compare that lack nothing."""
+    names = compare.declared() + compare.of_crate() + [compare.PROGRAM]
+    measured = [name for name in names if not compare.no_distance(name)]
+    distances = [(name, "others") for name in measured] + [(name, "lattices") for name in compare.ON_LATTICES]
+    return [f"table: calls {name} 10 5 0" for name in names] + [
+        f"table: distance {name} {inputs} 1.5e-9 7 0 0" for name, inputs in distances
+    ]
+
+
+class Table(unittest.TestCase):
+    """What oracle/compare makes of the logs of its rounds."""
+
+    def gathered(self, *rounds):
+        """The comparison of some rounds, each the lines of one part's log, how many calls differ, and what was printed."""
+        found, printed = compare.Compare(1), io.StringIO()
+        with contextlib.redirect_stdout(printed):
+            for seed, lines in enumerate(rounds):
+                found.gather("part", seed, "\n".join(lines))
+            differences = found.print_table()
+            found.expect_all()
+        return found, differences, printed.getvalue()
+
+    def test_whole(self):
+        lines = table_lines()
+        found, differences, printed = self.gathered(lines, [*lines, "left out: V8"])
+        self.assertEqual((found.failures, differences), ([], 0))
+        self.assertIn("left out: V8", printed)
+        self.assertEqual((found.operations["root"].calls, found.operations["root"].answered), (20, 10))
+
+    def test_each_line_is_missed(self):
+        lines = table_lines()
+        for place in range(len(lines)):
+            without = lines[:place] + lines[place + 1 :]
+            self.assertTrue(self.gathered(without)[0].failures, lines[place])
+            self.assertTrue(self.gathered(lines, without)[0].failures, lines[place])
+
+    def test_lines_that_say_too_little(self):
+        lines = table_lines()
+        for line in ["table: calls root 10 0 0", "table: calls root 10", "table: calls root ten 5 0"]:
+            self.assertTrue(self.gathered([line, *lines[1:]])[0].failures, line)
+        self.assertTrue(self.gathered([])[0].failures)
+
+    def test_differences(self):
+        found, differences, _ = self.gathered(["table: calls root 10 5 3", *table_lines()[1:]])
+        self.assertEqual((differences, found.failures), (3, []))
+
+    def test_commands_that_fail(self):
+        found = compare.Compare(1)
+        with tempfile.TemporaryDirectory() as folder, contextlib.redirect_stdout(io.StringIO()):
+            log = Path(folder) / "log"
+            self.assertTrue(found.run("part", log, ["true"], {}))
+            self.assertFalse(found.run("part", log, ["false"], {}))
+            self.assertFalse(found.run("part", log, [Path(folder) / "absent"], {}))
+        self.assertEqual(len(found.failures), 2)
 
 
 @unittest.skipUnless(PROGRAM.exists(), "the program is not built")
