@@ -2,7 +2,8 @@
 use crate::ffi;
 use crate::inputs::Input;
 use crate::tables::{Effort, answered, print_table, ratio, seconds, time};
-use calls::{Call, Complex, as_rust};
+use calls::checks::Check;
+use calls::{Call, Complex, LISTS, as_rust};
 use phyz_regge::complex::SimplicialComplex;
 use std::collections::HashSet;
 use std::ffi::{c_int, c_void};
@@ -35,11 +36,14 @@ impl Builder {
         unsafe { ffi::from_pentachorons(self.call.n_vertices, given, lists, self.counts.as_mut_ptr(), &mut self.place) }
     }
 
-    /// Makes sure that the counts are those of what the Rust built.
+    /// Makes sure that the counts and the ten lists are those of what the Rust built.
     pub fn verify(&mut self, complex: &SimplicialComplex) {
         assert_eq!(self.make(), 0, "the builder refuses");
-        let sizes = [complex.pents.len(), complex.edges.len(), complex.triangles.len(), complex.tets.len()];
-        assert_eq!(self.counts[1..], sizes, "the counts differ");
+        let Check { counts, lists, .. } = Check::new(complex);
+        assert_eq!(self.counts, counts, "the counts differ");
+        for (list, (ours, rust)) in LISTS.iter().zip(self.lists.iter().zip(&lists)) {
+            assert!(ours.starts_with(rust), "the lists {} differ", list.name);
+        }
     }
 }
 

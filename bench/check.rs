@@ -2,7 +2,7 @@
 use crate::ffi;
 use crate::inputs::Input;
 use crate::tables::{Effort, answered, print_table, ratio, seconds, time};
-use calls::checks::Check;
+use calls::checks::{self, Check};
 use phyz_regge::complex::SimplicialComplex;
 use phyz_regge::lorentzian_regge::lorentzian_deficit_angles;
 
@@ -29,6 +29,13 @@ impl Checked {
         unsafe { ffi::check_built(lent, edges.0, edges.1, tris.0, tris.1) }
     }
 
+    /// Makes sure that it accepts, and writes the numbers that the Rust has for each pentachoron's edges and triangles.
+    pub fn verify(&mut self) {
+        let due = checks::answer(&self.check, self.outputs.each_ref().map(|output| vec![0; output.len()]));
+        assert_eq!((self.make(), due.number), (0, 0), "the complex is refused");
+        assert!(self.outputs == due.outputs, "the numbers of edges and triangles differ");
+    }
+
     /// The counts and the lists as they are lent.
     pub fn lent(&self) -> ffi::Lists {
         let lists = std::array::from_fn(|list| (self.check.lists[list].as_ptr(), self.check.lengths[list]));
@@ -47,6 +54,7 @@ pub fn print(effort: Effort, inputs: &[Input]) -> [f64; 2] {
     let (mut rows, mut measured) = (Vec::new(), Vec::new());
     for input in inputs {
         let mut checked = Checked::new(&input.complex);
+        checked.verify();
         let [ours, rust] = effort.medians([&mut || answered(|| checked.make()), &mut || {
             seconds(|| lorentzian_deficit_angles(&input.complex, &input.lengths))
         }]);

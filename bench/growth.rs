@@ -1,10 +1,10 @@
 //! How the time of our calls grows with the number of pentachorons.
 use crate::builder::Builder;
 use crate::check::Checked;
-use crate::hinges::Hinges;
+use crate::hinges::{self, Hinges};
 use crate::inputs::Input;
-use crate::local::{Local, some_edges};
-use crate::retouch::Retouch;
+use crate::local::{self, Local, some_edges};
+use crate::retouch::{self, Retouch};
 use crate::tables::{Effort, answered, grouped, print_table, time};
 
 /// The lattices, small to large.
@@ -21,12 +21,17 @@ const CALLS: [&str; 6] =
     ["builder", "check", "deficits, core", "gradient, core", "local gradient, 10 free, core", "retouch, core"];
 const WHOLE: usize = 4;
 
-/// The times of the calls.
+/// The times of the calls, after their answers were compared with the Rust's.
 fn times(effort: Effort, input: &Input) -> [f64; 6] {
     let (mut builder, mut checked) = (Builder::new(input.given.clone()), Checked::new(&input.complex));
     let (mut deficits, mut gradient) = (Hinges::new(input), Hinges::new(input));
-    let mut local = Local::new(input, &some_edges(&input.complex, FREE));
-    let mut retouch = Retouch::new(input);
+    let free = &some_edges(&input.complex, FREE);
+    let (mut local, mut retouch) = (Local::new(input, free), Retouch::new(input));
+    builder.verify(&input.complex);
+    checked.verify();
+    hinges::verify(input, &mut gradient, &mut deficits);
+    local::verify(input, free, &mut Local::new(input, free), &mut local);
+    retouch::verify(input, &mut Retouch::new(input), &mut retouch);
     effort.medians([
         &mut || answered(|| builder.make()),
         &mut || answered(|| checked.make()),

@@ -108,7 +108,7 @@ impl Hinges {
 }
 
 /// Makes sure that checked calls and cores give the same, and about what the Rust gives.
-fn verify(input: &Input, checked: &mut Hinges, core: &mut Hinges) {
+pub fn verify(input: &Input, checked: &mut Hinges, core: &mut Hinges) {
     let (complex, lengths) = (&input.complex, &input.lengths);
     let numbers = [checked.deficits(), checked.hinge(), checked.action(), checked.gradient()];
     let cores = [core.deficits_core(), core.hinge_core(), core.action_core(), core.gradient_core()];

@@ -5,8 +5,9 @@ use crate::ffi;
 use crate::inputs::{Input, SIZE, UNITS};
 use crate::near::assert_same;
 use crate::tables::{Effort, answered, print_table, ratio, seconds, time};
-use phyz_regge::complex::SimplicialComplex;
+use phyz_regge::complex::{Edge, Pent, SimplicialComplex};
 use phyz_regge::foliation::{flat_minkowski_sq_lengths, foliated_hypercubic};
+use std::collections::BTreeSet;
 
 /// A call of foliated_hypercubic with the list that it is lent, exactly of its room.
 pub struct Listing {
@@ -58,16 +59,24 @@ impl Edges {
     }
 }
 
-/// Makes sure that the list is the lattice's, and types and lengths those of the Rust, edge by edge.
+/// Makes sure that pentachorons are those of the Rust's lattice, and types and lengths its own, edge by edge: it is numbered in hash order.
+pub fn assert_lattice(pents: &[Pent], edges: &[Edge], types: &[u8], lengths: &[f64]) {
+    let lattice = foliated_hypercubic(SIZE.0, SIZE.1);
+    let [ours, rust] = [pents, &lattice.complex.pents].map(BTreeSet::from_iter);
+    assert_eq!((pents.len(), edges.len()), (rust.len(), lattice.complex.edges.len()), "the counts differ");
+    assert!(ours == rust, "the pentachorons differ");
+    let numbers: Vec<usize> = edges.iter().map(|edge| lattice.complex.edge_index[edge]).collect();
+    let rust: Vec<u8> = numbers.iter().map(|&edge| lattice.edge_types[edge] as u8).collect();
+    assert!(types == rust, "the types differ");
+    let rust = flat_minkowski_sq_lengths(&lattice, UNITS.0, UNITS.1);
+    assert_same(lengths, &numbers.iter().map(|&edge| rust[edge]).collect::<Vec<_>>());
+}
+
+/// Makes sure that the list is the lattice's, and types and lengths those of the Rust.
 fn verify(input: &Input, listing: &mut Listing, edges: &mut Edges) {
     assert_eq!([listing.make(), edges.types(), edges.lengths()], [0; 3], "the lattice is refused");
     assert_eq!((listing.count, &listing.pents[..]), (input.given.1.len(), input.given.1.as_flattened()));
-    let lattice = foliated_hypercubic(SIZE.0, SIZE.1);
-    let lengths = flat_minkowski_sq_lengths(&lattice, UNITS.0, UNITS.1);
-    let numbers: Vec<usize> = input.complex.edges.iter().map(|edge| lattice.complex.edge_index[edge]).collect();
-    let types: Vec<u8> = numbers.iter().map(|&edge| lattice.edge_types[edge] as u8).collect();
-    assert_eq!(edges.types, types, "the types differ");
-    assert_same(&edges.lengths, &numbers.iter().map(|&edge| lengths[edge]).collect::<Vec<_>>());
+    assert_lattice(&input.complex.pents, &input.complex.edges, &edges.types, &edges.lengths);
 }
 
 /// Prints the table: our list, builder, types and lengths beside the Rust's foliated_hypercubic, which does the first three in one.
@@ -75,6 +84,7 @@ pub fn print(effort: Effort, input: &Input) {
     let (mut listing, mut edges) = (Listing::new(), Edges::new(&input.complex));
     let (mut others, mut builder) = (Edges::new(&input.complex), Builder::new(input.given.clone()));
     verify(input, &mut listing, &mut edges);
+    builder.verify(&input.complex);
     let lattice = foliated_hypercubic(SIZE.0, SIZE.1);
     let [list, build, types, lengths, foliated, flat] = effort.medians([
         &mut || answered(|| listing.make()),

@@ -10,6 +10,7 @@ use phyz_regge::complex::SimplicialComplex;
 use phyz_regge::lorentzian_regge::{
     local_deficit_angles, local_lorentzian_regge_action_grad, local_lorentzian_regge_hessian,
 };
+use std::ops::Index;
 
 /// How many free edges there are.
 const FREE: [usize; 3] = [1, 10, 100];
@@ -130,8 +131,13 @@ pub fn some_edges(complex: &SimplicialComplex, count: usize) -> Vec<usize> {
     edges
 }
 
+/// The entries of a square matrix, row after row.
+pub fn entries(matrix: &impl Index<(usize, usize), Output = f64>, size: usize) -> Vec<f64> {
+    (0..size * size).map(|place| matrix[(place / size, place % size)]).collect()
+}
+
 /// Makes sure that checked calls and cores give the same, and about what the Rust gives.
-fn verify(input: &Input, free: &[usize], checked: &mut Local, core: &mut Local) {
+pub fn verify(input: &Input, free: &[usize], checked: &mut Local, core: &mut Local) {
     let numbers = [checked.deficits(), checked.gradient(), checked.hessian()];
     let cores = [core.deficits_core(), core.gradient_core(), core.hessian_core()];
     assert_eq!((numbers, cores), ([0; 3], [0; 3]), "refused");
@@ -147,9 +153,7 @@ fn verify(input: &Input, free: &[usize], checked: &mut Local, core: &mut Local) 
     assert_near(&core.deficits[..count], &deficits);
     assert_near(&core.grad, &local_lorentzian_regge_action_grad(complex, lengths, free));
     let hessian = local_lorentzian_regge_hessian(complex, lengths, free, STEP);
-    let n = free.len();
-    let entries: Vec<f64> = (0..n * n).map(|place| hessian[(place / n, place % n)]).collect();
-    assert_near(&core.hessian, &entries);
+    assert_near(&core.hessian, &entries(&hessian, free.len()));
 }
 
 /// Times the three calls over so many free edges.

@@ -2,7 +2,7 @@
 use crate::check::Checked;
 use crate::inputs::Input;
 use crate::near::{assert_near, assert_same};
-use crate::tables::{Effort, Row, answered, seconds};
+use crate::tables::{Effort, Row, answered, grouped, seconds};
 use crate::{checked, ffi};
 use phyz_regge::complex::SimplicialComplex;
 use phyz_regge::lorentzian_regge::{local_deficit_angles, lorentzian_deficit_angles};
@@ -76,14 +76,16 @@ fn touched(complex: &SimplicialComplex, edge: usize) -> Vec<usize> {
 }
 
 /// Makes sure that both give the same, and at the touched triangles about what the Rust gives.
-fn verify(input: &Input, free: &[usize], touched: &[usize], checked: &mut Retouch, core: &mut Retouch) {
+pub fn verify(input: &Input, checked: &mut Retouch, core: &mut Retouch) {
     assert_eq!([checked.make(), core.make_core()], [0; 2], "refused");
+    assert_same(&[core.lengths[core.edge as usize]], &core.moved[..1]);
     assert_same(&checked.lengths, &core.lengths);
     assert_same(&checked.deficits, &core.deficits);
     assert_eq!(checked.kinds, core.kinds, "the kinds differ");
-    let some = local_deficit_angles(&input.complex, &core.lengths, free);
-    let every = lorentzian_deficit_angles(&input.complex, &core.lengths);
-    for &tri in touched {
+    let (complex, edge) = (&input.complex, core.edge as usize);
+    let some = local_deficit_angles(complex, &core.lengths, &cover(complex, edge));
+    let every = lorentzian_deficit_angles(complex, &core.lengths);
+    for tri in touched(complex, edge) {
         assert_eq!([core.kinds[tri]; 2], [some[&tri].1 as u8, every[tri].1 as u8], "the kinds differ from the Rust's");
         assert_near(&[core.deficits[tri]; 2], &[some[&tri].0, every[tri].0]);
     }
@@ -93,15 +95,17 @@ fn verify(input: &Input, free: &[usize], touched: &[usize], checked: &mut Retouc
 pub fn rows(effort: Effort, input: &Input) -> [Row; 2] {
     let (mut checked, mut core) = (Retouch::new(input), Retouch::new(input));
     let (complex, lengths, edge) = (&input.complex, &input.lengths, core.edge as usize);
-    let (free, touched) = (cover(complex, edge), touched(complex, edge));
-    verify(input, &free, &touched, &mut checked, &mut core);
+    let free = cover(complex, edge);
+    let triangles = [touched(complex, edge).len(), local_deficit_angles(complex, lengths, &free).len()];
+    let [touched, met] = triangles.map(grouped);
+    verify(input, &mut checked, &mut core);
     let [checked, core, local, all] = effort.medians([
         &mut || answered(|| checked.make()),
         &mut || answered(|| core.make_core()),
         &mut || seconds(|| local_deficit_angles(complex, lengths, &free)),
         &mut || seconds(|| lorentzian_deficit_angles(complex, lengths)),
     ]);
-    let call = format!("retouch of {} triangles; Rust: local deficits", touched.len());
+    let call = format!("retouch of {touched} triangles; Rust: local deficits of {met}");
     [
         Row { call, checked, core, rust: local },
         Row { call: "the same; Rust: all deficits".into(), checked, core, rust: all },

@@ -12,6 +12,7 @@ use calls::Complex;
 use calls::complexes::MOST_PENTS;
 use calls::lattice::lattice;
 use std::arch::asm;
+use std::hint::black_box;
 use std::ptr::{with_exposed_provenance, with_exposed_provenance_mut};
 use std::thread::Builder as Thread;
 
@@ -64,6 +65,28 @@ impl Stack {
         let thread = Thread::new().stack_size(STACK).spawn(measured).unwrap();
         let (bytes, number) = thread.join().unwrap();
         self.0.push(Measured { call: call.into(), input: input.into(), number, bytes });
+    }
+
+    /// Measures the calls on floats and on one pentachoron, answered ones and refused ones.
+    fn small(&mut self) {
+        for (call, function, numbers) in small::OF_ONE {
+            for &x in numbers {
+                self.measure(call, &format!("{x:?}"), move || function(black_box(x)));
+            }
+        }
+        for (call, function, inputs) in small::OF_THREE {
+            for &(input, numbers) in inputs {
+                self.measure(call, input, move || function(black_box(numbers)));
+            }
+        }
+        for (call, function) in small::ANSWERED {
+            for (input, lengths) in &small::PENTACHORONS {
+                self.measure(call, input, move || function(black_box(lengths)));
+            }
+        }
+        for (call, input, function) in small::REFUSED {
+            self.measure(call, input, move || function(black_box(&small::PENTACHORONS[0].1)));
+        }
     }
 
     /// Measures builders, answered ones and refused ones.
@@ -251,9 +274,7 @@ impl Stack {
     /// Measures all calls: of each function answered ones and, where it refuses, refused ones.
     pub fn of_all_calls() -> Stack {
         let (mut stack, complexes) = (Stack::default(), Complexes::new());
-        for (call, function) in small::CALLS {
-            stack.measure(call, "any numbers", function);
-        }
+        stack.small();
         stack.builders();
         stack.checks();
         stack.lattices();
