@@ -6,7 +6,7 @@ use crate::inputs::{Input, SIZE, UNITS};
 use crate::near::assert_same;
 use crate::tables::{Effort, answered, print_table, ratio, seconds, time};
 use phyz_regge::complex::{Edge, Pent, SimplicialComplex};
-use phyz_regge::foliation::{flat_minkowski_sq_lengths, foliated_hypercubic};
+use phyz_regge::foliation::{FoliatedComplex, flat_minkowski_sq_lengths, foliated_hypercubic};
 use std::collections::BTreeSet;
 
 /// A call of foliated_hypercubic with the list that it is lent, exactly of its room.
@@ -59,24 +59,35 @@ impl Edges {
     }
 }
 
-/// Makes sure that pentachorons are those of the Rust's lattice, and types and lengths its own, edge by edge: it is numbered in hash order.
-pub fn assert_lattice(pents: &[Pent], edges: &[Edge], types: &[u8], lengths: &[f64]) {
+/// The Rust's lattice, with its flat squared lengths.
+pub fn rust_lattice() -> (FoliatedComplex, Vec<f64>) {
     let lattice = foliated_hypercubic(SIZE.0, SIZE.1);
+    let lengths = flat_minkowski_sq_lengths(&lattice, UNITS.0, UNITS.1);
+    (lattice, lengths)
+}
+
+/// Makes sure that pentachorons are those of the Rust's lattice, and types and lengths its own, edge by edge: it is numbered in hash order.
+pub fn assert_lattice(
+    (lattice, rust_lengths): (FoliatedComplex, Vec<f64>),
+    pents: &[Pent],
+    edges: &[Edge],
+    types: &[u8],
+    lengths: &[f64],
+) {
     let [ours, rust] = [pents, &lattice.complex.pents].map(BTreeSet::from_iter);
     assert_eq!((pents.len(), edges.len()), (rust.len(), lattice.complex.edges.len()), "the counts differ");
     assert!(ours == rust, "the pentachorons differ");
     let numbers: Vec<usize> = edges.iter().map(|edge| lattice.complex.edge_index[edge]).collect();
     let rust: Vec<u8> = numbers.iter().map(|&edge| lattice.edge_types[edge] as u8).collect();
     assert!(types == rust, "the types differ");
-    let rust = flat_minkowski_sq_lengths(&lattice, UNITS.0, UNITS.1);
-    assert_same(lengths, &numbers.iter().map(|&edge| rust[edge]).collect::<Vec<_>>());
+    assert_same(lengths, &numbers.iter().map(|&edge| rust_lengths[edge]).collect::<Vec<_>>());
 }
 
 /// Makes sure that the list is the lattice's, and types and lengths those of the Rust.
 fn verify(input: &Input, listing: &mut Listing, edges: &mut Edges) {
     assert_eq!([listing.make(), edges.types(), edges.lengths()], [0; 3], "the lattice is refused");
     assert_eq!((listing.count, &listing.pents[..]), (input.given.1.len(), input.given.1.as_flattened()));
-    assert_lattice(&input.complex.pents, &input.complex.edges, &edges.types, &edges.lengths);
+    assert_lattice(rust_lattice(), &input.complex.pents, &input.complex.edges, &edges.types, &edges.lengths);
 }
 
 /// Prints the table: our list, builder, types and lengths beside the Rust's foliated_hypercubic, which does the first three in one.

@@ -1,6 +1,6 @@
 //! The Rust crate of bindings/rust beside the Rust, call by call: what a group sees that moves.
 use crate::inputs::{Input, SIZE, UNITS};
-use crate::lattices::assert_lattice;
+use crate::lattices::{assert_lattice, rust_lattice};
 use crate::local::{STEP, entries, some_edges};
 use crate::near::{assert_near, assert_same};
 use crate::tables::{Effort, print_table, ratio, seconds, time};
@@ -9,7 +9,7 @@ use cjapthumi::complex::EdgeNumber;
 use cjapthumi::hinge_table::HingeTable;
 use cjapthumi::{foliation, lorentzian, lorentzian_regge as ours, retouch::retouch};
 use phyz_regge::complex::SimplicialComplex;
-use phyz_regge::{foliation as rust_foliation, lorentzian as rust_lorentzian, lorentzian_regge as rust};
+use phyz_regge::{lorentzian as rust_lorentzian, lorentzian_regge as rust};
 
 /// How many free edges the local calls have.
 const FREE: usize = 10;
@@ -65,11 +65,6 @@ fn building(effort: Effort, input: &Input) -> Vec<Vec<String>> {
         let lengths = foliation::flat_minkowski_sq_lengths(&lattice, UNITS.0, UNITS.1);
         (lattice, lengths)
     };
-    let rust_flat = || {
-        let lattice = rust_foliation::foliated_hypercubic(SIZE.0, SIZE.1);
-        let lengths = rust_foliation::flat_minkowski_sq_lengths(&lattice, UNITS.0, UNITS.1);
-        (lattice, lengths)
-    };
     vec![
         compared(
             effort,
@@ -80,9 +75,9 @@ fn building(effort: Effort, input: &Input) -> Vec<Vec<String>> {
             ),
             compare_complexes,
         ),
-        compared(effort, "lattice, types and flat lengths", (flat, rust_flat), |(lattice, lengths), _| {
+        compared(effort, "lattice, types and flat lengths", (flat, rust_lattice), |(lattice, lengths), rust| {
             let types: Vec<u8> = lattice.edge_types.iter().map(|&kind| kind as u8).collect();
-            assert_lattice(&lattice.complex.pents, &lattice.complex.edges, &types, &lengths);
+            assert_lattice(rust, &lattice.complex.pents, &lattice.complex.edges, &types, &lengths);
         }),
     ]
 }

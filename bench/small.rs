@@ -1,4 +1,4 @@
-//! Our calls on floats and on one pentachoron, as the stack measures them: for each branch an input, and those that refuse.
+//! Our calls on floats and on one pentachoron, as the stack measures them: for each branch an input, and calls that are refused.
 use crate::ffi;
 use crate::local::STEP;
 use std::hint::black_box;
@@ -9,6 +9,7 @@ unsafe extern "C" {
     safe fn cjapthumi_clamp_unit(x: f64) -> f64;
 }
 
+/// NaN, for short.
 const NAN: f64 = f64::NAN;
 
 /// The squared lengths of a pentachoron's edges.

@@ -67,15 +67,14 @@ pub fn of_lattice(report: &mut Report, size: sizes::Size) -> (FoliatedComplex, S
     let found = foliated_hypercubic(size.0, size.1);
     let told = found.as_ref().map(|lattice| ours(&lattice.complex)).map_err(Refusal::clone);
     report.call("foliated_hypercubic", || format!("{size:?}"), told, Ok(rust(&complex)));
-    let (found, unaltered) = (found.unwrap(), phyz_regge::foliation::foliated_hypercubic(size.0, size.1));
     for (spacing, dt) in [(1.0, 0.5), (0.3, -2.0), (f64::NAN, 1.0), (1e200, f64::INFINITY)] {
-        let (told, lengths) = programs::ours::slices(&found, spacing, dt);
-        let (due_told, due) = programs::rust::slices(&unaltered, spacing, dt);
+        let (told, lengths) = programs::ours::slices(size, spacing, dt);
+        let (due_told, due) = programs::rust::slices(size, spacing, dt);
         let about = || format!("{size:?}, {spacing:?}, {dt:?}");
         report.plain("FoliatedComplex", about, told, due_told);
         report.plain("flat_minkowski_sq_lengths", about, all_bits(&lengths), all_bits(&due));
     }
-    (found, complex)
+    (found.unwrap(), complex)
 }
 
 /// Compares sizes that aren't lawful.

@@ -1,11 +1,11 @@
 // A group's program over phyz-regge. Its text is compiled twice, with the Rust and with our crate, which are `regge`; only `given`, which
 // takes an answer out of a call that can be refused, differs: there a program that moves gets a `?`.
 use self::regge::complex::SimplicialComplex;
-use self::regge::foliation::{EdgeType, FoliatedComplex, flat_minkowski_sq_lengths};
+use self::regge::foliation::{EdgeType, flat_minkowski_sq_lengths, foliated_hypercubic};
 use self::regge::geometry::cofactor_6x6;
 use self::regge::lorentzian::{
-    HingeType, all_lorentzian_dihedrals, cm_matrix_signed, lorentzian_dihedral, tri_area_sq_grad_in_pent,
-    triangle_area_sq_grad, triangle_area_sq_lorentzian,
+    HingeType, all_lorentzian_dihedrals, all_lorentzian_dihedrals_jacobian, cm_matrix_signed, lorentzian_dihedral,
+    tri_area_sq_grad_in_pent, triangle_area_sq_grad, triangle_area_sq_lorentzian,
 };
 use self::regge::lorentzian_regge::{
     local_deficit_angles, local_lorentzian_regge_action_grad, local_lorentzian_regge_hessian,
@@ -60,8 +60,14 @@ pub fn fields(complex: &SimplicialComplex) -> Vec<Vec<usize>> {
     fields
 }
 
+/// All that the complex of some pentachorons has in its fields.
+pub fn built(n_vertices: usize, pents: &[[usize; 5]]) -> Vec<Vec<usize>> {
+    fields(&given(SimplicialComplex::from_pentachorons(n_vertices, pents)))
+}
+
 /// What a lattice tells of its slices and of the types of its edges, and the flat squared lengths; edges come by their vertices.
-pub fn slices(lattice: &FoliatedComplex, spacing: f64, dt: f64) -> (Vec<Vec<usize>>, Vec<f64>) {
+pub fn slices((n_t, n_s): (usize, usize), spacing: f64, dt: f64) -> (Vec<Vec<usize>>, Vec<f64>) {
+    let lattice = &given(foliated_hypercubic(n_t, n_s));
     let mut told = vec![vec![lattice.n_slices, lattice.n_spatial, lattice.vertices_per_slice]];
     told.extend(lattice.vertex_map.iter().cloned());
     for (slice, locals) in lattice.vertex_map.iter().enumerate() {
@@ -95,6 +101,9 @@ pub fn geometry(complex: &SimplicialComplex, sq_lengths: &[f64]) -> Vec<f64> {
         let (value, sort) = given(lorentzian_dihedral(&s, pent % 4, 4));
         numbers.extend([value, kind(sort)]);
         numbers.extend(all_lorentzian_dihedrals(&s).iter().flat_map(|&(value, sort)| [value, kind(sort)]));
+        if pent == 0 {
+            numbers.extend(all_lorentzian_dihedrals_jacobian(&s, STEP).as_flattened());
+        }
     }
     for tri in 0..complex.n_triangles() {
         let [s01, s02, s12] = complex.tri_edge_lengths(tri, sq_lengths);

@@ -50,6 +50,8 @@ enum Given {
     Stale,
     /// The one worked out anew without its last record.
     Short,
+    /// The one worked out anew, and a length too many.
+    Lengths,
 }
 
 /// Our complex and the Rust's, with lengths.
@@ -141,15 +143,19 @@ impl Over<'_> {
     /// Compares a retouch: the lengths and the table afterwards, and whether our tables are equal where the Rust's are.
     fn retouch(&self, report: &mut Report, edge: usize, new: f64, given: Given) {
         let (mut lengths, mut table) = (self.lengths.clone(), self.given(given));
-        let before: Vec<Record> = table.iter().map(record).collect();
+        if given == Given::Lengths {
+            lengths.push(1.0);
+        }
+        let (mut changed, before) = (lengths.clone(), table.iter().map(record).collect::<Vec<Record>>());
         let answer = retouch(self.ours, &mut lengths, EdgeNumber(edge), new, &mut table);
         let left = (all_bits(&lengths), table.iter().map(record).collect::<Vec<_>>());
         let refused = match (edge >= self.lengths.len(), given) {
+            (_, Given::Lengths) => Err((8, 0)),
             (true, _) => Err((9, 0)),
             (_, Given::Short) => Err((5, 0)),
             _ => Ok(()),
         };
-        let (mut changed, mut due) = (self.lengths.clone(), before);
+        let mut due = before;
         if refused.is_ok() {
             changed[edge] = new;
             let anew = expected::altered(self.rust, &changed);
@@ -161,8 +167,7 @@ impl Over<'_> {
             report.plain("HingeTable", || format!("equality after a retouch of edge {edge}"), equal, due == anew);
         }
         let about = || format!("edge {edge} to {new:?}, table {given:?}, lengths {:?}", self.lengths);
-        report.call("retouch", about, answer, refused);
-        report.plain("retouch", about, left, (all_bits(&changed), due));
+        report.lent("retouch", about, (answer, left), (refused, (all_bits(&changed), due)));
     }
 
     /// Compares every call, also with lengths of a wrong number, free edges and triangles that are too large, and edges that stand twice.
@@ -182,7 +187,7 @@ impl Over<'_> {
         if edges > 0 {
             self.local(report, &self.lengths, &[&free[..], &[0], &free[..], &[0]].concat(), fd_eps);
             let (edge, new) = (random.below(edges), random.pick(&SORTS)(random));
-            for given in [Given::WorkedOut, Given::Stale, Given::Short] {
+            for given in [Given::WorkedOut, Given::Stale, Given::Short, Given::Lengths] {
                 self.retouch(report, edge, new, given);
                 self.retouch(report, outside, new, given);
             }

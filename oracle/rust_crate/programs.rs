@@ -41,6 +41,9 @@ pub fn compare(
     free: &[usize],
     fd_eps: f64,
 ) {
+    let (n_vertices, pents) = (rust.n_vertices, &rust.pents);
+    let about = || format!("{n_vertices} vertices, {pents:?}");
+    report.plain("program_complex", about, ours::built(n_vertices, pents), rust::built(n_vertices, pents));
     let about = || format!("lengths {lengths:?}, free {free:?}, step {fd_eps:?}");
     let [found, due] = [ours::geometry(complex, lengths), rust::geometry(rust, lengths)];
     report.plain("program_geometry", about, all_bits(&found), all_bits(&due));

@@ -45,8 +45,8 @@ impl Report {
         }
     }
 
-    /// Compares what a call gave, in a form in which equal answers are the same, with what is due; a refusal also with what is made of
-    /// its number and place.
+    /// Compares what a call gave, in a form in which equal answers are the same, with what is due; a refusal also with the one that is
+    /// made of the number and place that are due.
     pub fn call<T: PartialEq + Debug>(
         &mut self,
         name: &'static str,
@@ -54,9 +54,10 @@ impl Report {
         ours: Result<T, Refusal>,
         due: Result<T, Refused>,
     ) {
-        if let Err(refusal) = ours {
-            let again = Refusal::from_number(refusal.number(), refusal.place());
-            self.count("Refusal", true, (again != Some(refusal)).then(|| format!("{refusal:?} is made {again:?}")));
+        if let (Err(refusal), Err((number, place))) = (&ours, &due) {
+            let made = Refusal::from_number(*number, *place);
+            let difference = || format!("{number}, {place} make {made:?}, given {refusal:?}");
+            self.count("Refusal", true, (made != Some(*refusal)).then(difference));
         }
         let ours = ours.map_err(|refusal| (refusal.number(), refusal.place()));
         let difference = (ours != due).then(|| format!("{}\n  ours {ours:?}\n  due {due:?}", about()));
@@ -66,6 +67,22 @@ impl Report {
     /// Compares a call that is never refused.
     pub fn plain<T: PartialEq + Debug>(&mut self, name: &'static str, about: impl Fn() -> String, ours: T, due: T) {
         self.call(name, about, Ok(ours), Ok(due));
+    }
+
+    /// Compares a call that changes what it is lent: its refusal, if any, and what it left.
+    pub fn lent<T: PartialEq + Debug>(
+        &mut self,
+        name: &'static str,
+        about: impl Fn() -> String,
+        (ours, left): (Result<(), Refusal>, T),
+        (due, due_left): (Result<(), Refused>, T),
+    ) {
+        if left == due_left {
+            self.call(name, about, ours, due);
+        } else {
+            let difference = format!("{}\n  left {left:?}\n  due {due_left:?}", about());
+            self.count(name, due.is_ok(), Some(difference));
+        }
     }
 
     /// Prints the counts; how many calls differ.

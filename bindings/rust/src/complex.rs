@@ -89,7 +89,7 @@ impl Deref for Complex {
 
 impl fmt::Debug for Complex {
     fn fmt(&self, f: &mut fmt::Formatter<'_>) -> fmt::Result {
-        self.incidence.fmt(f)
+        f.debug_tuple("Complex").field(&self.incidence).finish()
     }
 }
 

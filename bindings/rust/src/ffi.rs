@@ -1,7 +1,9 @@
-//! The functions of `cjapthumi.h` and `cjapthumi_built.h`, under the names that these give them after `cjapthumi_`; the ten lists of a complex are one argument.
+//! The functions of `cjapthumi.h` and `cjapthumi_built.h`. Those over a complex take its ten lists as one argument, and have their names
+//! without `cjapthumi_`.
 //!
 //! # Safety
-//! For all of them: pointers are aligned and valid for the lengths beside them or for the arrays that the headers name, also those with length 0; what a call may write overlaps nothing else that it is lent.
+//! For all of them: pointers are aligned and valid for the lengths beside them or for the arrays that the headers name, also those with
+//! length 0; what a call may write overlaps nothing else that it is lent.
 
 /// The counts and lists of a complex: each list is its start and its length.
 #[derive(Clone, Copy)]

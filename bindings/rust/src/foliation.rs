@@ -4,8 +4,10 @@ use crate::ffi;
 use crate::refusal::{Refusal, answered};
 use std::ops::Deref;
 
-/// The most cells of a lattice, and how many places the vertices of a cell's pentachorons take.
+/// The most cells of a lattice.
 const MOST_CELLS: usize = 341;
+
+/// How many places the vertices of a cell's pentachorons take.
 const CELL: usize = 120;
 
 /// The type of a lattice's edge.
@@ -26,8 +28,8 @@ impl EdgeType {
     }
 }
 
-/// A lattice's complex with its slices and the types of its edges. What there is to read are the fields of [`Foliation`], as
-/// `lattice.complex` and `lattice.edge_types`; nothing changes them. A lattice can be put in another's place, its complex can't:
+/// A lattice's complex with its slices and the types of its edges. Its fields, such as `lattice.complex`, are those of [`Foliation`];
+/// they can be read, not changed. A whole lattice can take another's place, its complex can't:
 ///
 /// ```
 /// # use cjapthumi::foliation::foliated_hypercubic;

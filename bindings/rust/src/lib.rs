@@ -7,7 +7,7 @@
 //! - A call into the library that breaks a condition is refused with a [`Refusal`] where phyz-regge panics or answers in silence: a
 //!   list of lengths of the wrong count, an edge number that is too large, a free edge given twice. A refused call changes nothing.
 //!   Every other call answers, NaN and infinite lengths included. What is only looked up, in a complex, a lattice or a matrix, panics
-//!   out of range, as there.
+//!   out of range where it does there.
 //! - Sizes have limits: 4,096 vertices, 8,192 pentachorons, lattices of at most 341 cells.
 //! - An answer has the same bits each time: nothing is summed in hash order, and a free edge's local gradient is its entry of the
 //!   global one.

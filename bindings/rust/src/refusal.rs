@@ -39,7 +39,8 @@ pub enum Refusal {
     RepeatedEdge,
     /// 11: a row, a column, a vertex of a pentachoron or a triangle number is out of range, or two vertices are the same.
     BadIndex,
-    /// 12, of the program `regge`, met by no call of this crate: its input is cut short, has a pad bit set, or does not end with its lengths.
+    /// 12, of the program `regge`, met by no call of this crate: its input is cut short, has a pad bit set, or does not end with its
+    /// lengths.
     BadInput,
     /// 13, of the program `regge`, met by no call of this crate: its input has more than 64 pentachorons.
     TooManyPentachorons,

@@ -7,7 +7,7 @@ use cjapthumi::lorentzian_regge::{
     lorentzian_regge_action_grad,
 };
 
-/// The smallest lattice whose vertices are all distinct from their neighbours, with lengths that are no longer flat.
+/// The smallest lattice in which a step forward and a step back lead to different vertices, with lengths that are no longer flat.
 fn curved() -> (Complex, Vec<f64>) {
     let lattice = foliated_hypercubic(3, 3).unwrap();
     let flat = flat_minkowski_sq_lengths(&lattice, 1.0, 0.5);

@@ -30,6 +30,7 @@ fn check(complex: &Complex) {
         assert!(found.iter().eq(&choices().iter().map(|c: &[usize; 2]| c.map(|v| vertices[v])).collect::<Vec<_>>()));
         let found = complex.pent_tri_indices(pent).map(|tri| tris[tri]);
         assert!(found.iter().eq(&choices().iter().map(|c: &[usize; 3]| c.map(|v| vertices[v])).collect::<Vec<_>>()));
+        assert!(choices().iter().all(|c: &[usize; 4]| complex.tet_index.contains_key(&c.map(|v| vertices[v]))));
         assert_eq!(complex.pent_edge_lengths(pent, &lengths).map(|s| s as usize), complex.pent_edge_indices(pent));
     }
     for (tri, &[a, b, c]) in tris.iter().enumerate() {

@@ -120,7 +120,8 @@ fn every_refusal_has_its_number_and_a_message_of_its_own() {
         assert_eq!((refusal.number(), refusal.place()), (number, if [3, 4].contains(&number) { 7 } else { 0 }));
         assert!(refusal.to_string().starts_with(&format!("refusal {number}: ")));
     }
-    let mut messages: Vec<String> = refusals.iter().map(|refusal| refusal.to_string()[10..].to_string()).collect();
+    let mut messages: Vec<String> =
+        refusals.iter().map(|refusal| refusal.to_string().split_once(": ").unwrap().1.to_string()).collect();
     messages.sort();
     messages.dedup();
     assert_eq!(messages.len(), 13);
