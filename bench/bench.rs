@@ -18,6 +18,8 @@ mod local;
 mod near;
 mod pentachoron;
 mod profile;
+#[path = "../oracle/fdlibm/reference.rs"]
+mod reference;
 mod retouch;
 mod rust_crate;
 mod small;

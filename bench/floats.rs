@@ -1,17 +1,9 @@
 //! Our root and angle functions beside Rust's methods and fdlibm's C, all called by their address.
 use crate::ffi;
 use crate::near::{assert_near, assert_same};
+use crate::reference::{fdlibm_acos, fdlibm_acosh, fdlibm_asinh, fdlibm_log, fdlibm_log1p, fdlibm_sqrt};
 use crate::tables::{Effort, print_table, ratio, seconds, time};
 use calls::random::Random;
-
-unsafe extern "C" {
-    safe fn fdlibm_sqrt(x: f64) -> f64;
-    safe fn fdlibm_log(x: f64) -> f64;
-    safe fn fdlibm_log1p(x: f64) -> f64;
-    safe fn fdlibm_acos(x: f64) -> f64;
-    safe fn fdlibm_acosh(x: f64) -> f64;
-    safe fn fdlibm_asinh(x: f64) -> f64;
-}
 
 /// How many numbers a function is asked for in one timing.
 const NUMBERS: usize = 4_096;

@@ -3,6 +3,8 @@ mod complexes;
 mod floats;
 mod over;
 mod programs;
+#[path = "../fdlibm/reference.rs"]
+mod reference;
 mod report;
 mod simplices;
 

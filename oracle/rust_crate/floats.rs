@@ -1,4 +1,5 @@
-//! The crate's functions on floats beside fdlibm's C and the processor's root.
+//! The crate's functions on floats beside fdlibm's C.
+use crate::reference::{fdlibm_acos, fdlibm_acosh, fdlibm_asinh, fdlibm_log, fdlibm_log1p, fdlibm_sqrt};
 use crate::report::{Report, bits};
 use calls::random::Random;
 use cjapthumi::fdlibm;
@@ -7,20 +8,12 @@ use hinges::simplexes::SORTS;
 /// How many numbers of each sort are drawn.
 const DRAWN: usize = 2_000;
 
-unsafe extern "C" {
-    safe fn fdlibm_log(x: f64) -> f64;
-    safe fn fdlibm_log1p(x: f64) -> f64;
-    safe fn fdlibm_acos(x: f64) -> f64;
-    safe fn fdlibm_acosh(x: f64) -> f64;
-    safe fn fdlibm_asinh(x: f64) -> f64;
-}
-
 /// A function's name, the crate's and the other.
 type Function = (&'static str, fn(f64) -> f64, fn(f64) -> f64);
 
 /// The functions.
 const FUNCTIONS: [Function; 6] = [
-    ("root", fdlibm::root, f64::sqrt),
+    ("root", fdlibm::root, |x| fdlibm_sqrt(x)),
     ("log", fdlibm::log, |x| fdlibm_log(x)),
     ("log1p", fdlibm::log1p, |x| fdlibm_log1p(x)),
     ("acos", fdlibm::acos, |x| fdlibm_acos(x)),
