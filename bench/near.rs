@@ -1,6 +1,7 @@
 //! How answers are compared before they are timed.
 
-/// How far an answer may be from the Rust's, whose angle functions and order of sums are others: this part of the largest number, or of 1 if all are smaller.
+/// How far an answer may be from the Rust's, whose angle functions and order of sums are others: this part of the largest number, or of 1
+/// if all are smaller.
 const APART: f64 = 1e-6;
 
 /// Makes sure that numbers have the same bits.
