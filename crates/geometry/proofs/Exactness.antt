@@ -1,10 +1,9 @@
 -- Where all ten squared lengths are whole and at most 32,768 in size, each cofactor of the rows and columns 1 to 5 is exactly the integers' cofactor. Assumes nothing.
 use Prim.Native.Nat.{ℕ, zero, suc, ◌+◌, ◌-◌, ◌^◌, ◌≤◌, ◌<◌}
-use mathlib.Core.Path.{◌≡◌, refl, sym, subst, subst₂}
-use mathlib.Core.Bool.{Bool, true, ◌&&◌}
+use mathlib.Core.Path.{◌≡◌, refl, subst₂}
+use mathlib.Core.Bool.{Bool, ◌&&◌}
 use mathlib.Core.List.{List, [], ◌∷◌, map}
-use mathlib.Core.Logic.{inl, inr}
-use native.Mathlib.Nat.{eq-or-lt_of_le, le_trans}
+use native.Mathlib.Nat.{le_trans}
 use native.Mathlib.Omega.{arith}
 use lib.Dec.{T, leb, ltb, leb→le, ltb→lt}
 use lib.ListN.{length, get_or}
@@ -17,7 +16,7 @@ use Rattle.floats.proofs.Integers.{of_int-int}
 use Rattle.floats.proofs.Bounds.{Bound, bounds, Follows, closed, int-follows, follows-int}
 use Rattle.geometry.specs.Determinant.{table, at, skip, minor, sign, det3, expand, det4, det5, cofactor}
 use Rattle.geometry.specs.CayleyMenger.{cm, cofactors, WholeWithin, limit}
-use Rattle.geometry.proofs.Tables.{get_or-table}
+use Rattle.geometry.proofs.Computed.{ten, ten-at, all, all-at}
 use Rattle.geometry.proofs.Related.{cm-cofactor_related}
 
 -- ---- the bounds of the cofactors, computed
@@ -26,36 +25,13 @@ use Rattle.geometry.proofs.Related.{cm-cofactor_related}
 abbrev length_bound : Bound
 length_bound = record { b = 2 ^ 15; k = 15 }
 
-ten : List Bound
-ten = table 10 (λ k. length_bound)
-
-ten-at : (k : ℕ) → k < 10 → get_or ten k bounds.out ≡ length_bound
-unfolding ten
-ten-at k l = get_or-table 10 (λ k. length_bound) bounds.out k l
-
 -- the bound of a cofactor
 abbrev bound : ℕ → ℕ → Bound
-bound row col = cofactor bounds (cm bounds ten) row col
+bound row col = cofactor bounds (cm bounds (ten length_bound)) row col
 
 -- such a bound makes it exact
 fine : Bound → Bool
 fine β = leb β.k 1023 && ltb β.b (2 ^ 53)
-
--- p holds below n
-all : (ℕ → Bool) → ℕ → Bool
-all p zero = true
-all p (suc n) = all p n && p n
-
-all-at : (p : ℕ → Bool) (n : ℕ) → T (all p n) → (k : ℕ) → k < n → T (p k)
-unfolding all
-all-at p zero h k l = absurd (omega arith)
-all-at p (suc n) h k l = elim (eq-or-lt_of_le (below k n l)) [
-  | inl e ↦ subst (λ (x : ℕ). T (p x)) (sym e) (and_r (all p n) (p n) h)
-  | inr m ↦ all-at p n (and_l (all p n) (p n) h) k m
-]
-  where
-    below : (k n : ℕ) → k < suc n → k ≤ n
-    below k n l = omega arith
 
 all_fine : T (all (λ i. all (λ j. fine (bound (i + 1) (j + 1))) 5) 5)
 unfolding all fine ten table at skip minor sign det3 expand det4 det5 cofactor cm
@@ -74,15 +50,15 @@ ints_at (more h t) zero l = h
 ints_at (more h t) (suc k) l = ints_at t k (omega arith)
 
 module _ (x : List Float) (z : List ℤ) (h : WholeWithin 10 limit x z) where
-  length-follows : (k : ℕ) → k < 10 → Follows (get_or x k nan) (get_or z k (pos 0)) (get_or ten k bounds.out)
-  length-follows k l = rw (ten-at k l) (int-follows 15 (get_or x k nan) (get_or z k (pos 0)) (h k l).0 (h k l).1)
+  length-follows : (k : ℕ) → k < 10 → Follows (get_or x k nan) (get_or z k (pos 0)) (get_or (ten length_bound) k bounds.out)
+  length-follows k l = rw (ten-at length_bound k l) (int-follows 15 (get_or x k nan) (get_or z k (pos 0)) (h k l).0 (h k l).1)
 
   exact-at : (i j : ℕ) → i < 5 → j < 5 → IsInt (cofactor doubles (cm doubles x) (i + 1) (j + 1)) (cofactor integers (cm integers z) (i + 1) (j + 1))
   exact-at i j hi hj =
       let β = bound (i + 1) (j + 1) in
       let ok : T (fine β) = all-at (λ b. fine (bound (i + 1) (b + 1))) 5 (all-at (λ a. all (λ b. fine (bound (a + 1) (b + 1))) 5) 5 all_fine i hi) j hj in
       follows-int (cofactor doubles (cm doubles x) (i + 1) (j + 1)) (cofactor integers (cm integers z) (i + 1) (j + 1)) β
-      (cm-cofactor_related Float ℤ Bound doubles integers bounds Follows closed x z ten length-follows (i + 1) (j + 1))
+      (cm-cofactor_related Float ℤ Bound doubles integers bounds Follows closed x z (ten length_bound) length-follows (i + 1) (j + 1))
       (leb→le β.k 1023 (unfold fine in and_l (leb β.k 1023) (ltb β.b (2 ^ 53)) ok))
       (ltb→lt β.b (2 ^ 53) (unfold fine in and_r (leb β.k 1023) (ltb β.b (2 ^ 53)) ok))
 

@@ -105,5 +105,13 @@ module _ (A B C : Type 0) (o : Algebra A) (p : Algebra B) (q : Algebra C) (R : A
     unfolding at
     cm-entry i j = get_or_related A B C R o.out p.out q.out κ.out (get_or_related (List A) (List B) (List C) (Lists A B C R) [] [] [] none cm-rows i) j
 
+    abbrev related-cm : M
+    related-cm = record { x = cm o x; y = cm p y; w = cm q w; entry = cm-entry }
+
     pub cm-cofactor_related : (row col : ℕ) → R (cofactor o (cm o x) row col) (cofactor p (cm p y) row col) (cofactor q (cm q w) row col)
-    cm-cofactor_related = cofactor_related (record { x = cm o x; y = cm p y; w = cm q w; entry = cm-entry })
+    cm-cofactor_related = cofactor_related related-cm
+
+    -- the determinants of four rows that the border's 0 multiplies
+    pub first-related : (row col : ℕ) → R (det4 o (minor o 4 (minor o 5 (cm o x) row col) 0 0)) (det4 p (minor p 4 (minor p 5 (cm p y) row col) 0 0)) (det4 q (minor q 4 (minor q 5 (cm q w) row col) 0 0))
+    unfolding minors
+    first-related i j = det4_related (minors 4 0 0 (minors 5 i j related-cm))

@@ -2,6 +2,8 @@
 // lengths, in the Rust's order of operations. A matrix is an array of rows.
 #![tactic(auto)]
 
+mod shared;
+
 ghost use Rattle.std.specs.Prelude.{◌≡◌, ◌+◌, ◌<◌, ◌≤◌, ℕ, List, [], get_or, Float};
 ghost use Rattle.std.specs.Float.{nan};
 ghost use Rattle.floats.specs.Algebra.{doubles};
@@ -10,6 +12,7 @@ ghost use Rattle.geometry.specs.CayleyMenger.{cm, cofactors};
 ghost use Rattle.geometry.specs.Answer.{cofactor_answer};
 
 use refusals::Refusal;
+use shared::{all_small, shared_cofactors};
 
 // ---- rows and minors
 
@@ -133,8 +136,8 @@ pub fn cm_matrix_signed(s: &[f64; 10]) -> [[f64; 6]; 6]
     ]
 }
 
-// The 15 cofactors of the rows and columns 1 to 5 of that matrix, no row above its column, row after row.
-pub fn cm_cofactors(s: &[f64; 10]) -> [f64; 15]
+// The 15 cofactors one by one, in the order of `cm_cofactors`.
+fn plain_cofactors(s: &[f64; 10]) -> [f64; 15]
     ensures { result ≡ cofactors doubles s.now }
 {
     let m = cm_matrix_signed(s);
@@ -157,4 +160,15 @@ pub fn cm_cofactors(s: &[f64; 10]) -> [f64; 15]
         cofactor_at(&m, 4, 5),
         cofactor_at(&m, 5, 5),
     ]
+}
+
+// The 15 cofactors of the rows and columns 1 to 5 of that matrix, no row above its column, row after row.
+pub fn cm_cofactors(s: &[f64; 10]) -> [f64; 15]
+    ensures { result ≡ cofactors doubles s.now }
+{
+    if all_small(s) {
+        shared_cofactors(s)
+    } else {
+        plain_cofactors(s)
+    }
 }

@@ -1,6 +1,6 @@
--- `geometry::cm_cofactors` meets its contract. Assumes nothing.
+-- `geometry::plain_cofactors` meets its contract. Assumes nothing.
 use Rattle.geometry.specs.CayleyMenger.{cofactors}
-use Rattle.geometry.proofs.cm_cofactors.Goals as goal
+use Rattle.geometry.proofs.plain_cofactors.Goals as goal
 
 pub returns : goal.returns
 unfolding cofactors
