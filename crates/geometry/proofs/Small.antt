@@ -16,14 +16,15 @@ use Rattle.floats.proofs.Magnitude.{Mag, neg-mag, add-mag, mul-mag}
 use Rattle.floats.proofs.Related.{Closed}
 use Rattle.geometry.specs.Determinant.{table, at, skip, minor, sign, det3, expand, det4}
 use Rattle.geometry.specs.CayleyMenger.{cm}
-use Rattle.geometry.specs.Minors.{small_limit, all_small}
+use Rattle.geometry.specs.declared.shared.TheConstants.{SMALL}
+use Rattle.geometry.specs.Minors.{all_small}
 use Rattle.geometry.proofs.Computed.{ten, ten-at, all, all-at}
 use Rattle.geometry.proofs.Related.{first-related}
 
 -- ---- small lengths are finite
 
 -- a double below the limit in size is at most 2 ^ 250
-small-mag : (x : Float) → lt (abs_of x) small_limit ≡ true → Mag x 250
+small-mag : (x : Float) → lt (abs_of x) SMALL ≡ true → Mag x 250
 unfolding lt abs_of of_bits
 small-mag nan h = absurd (true≢false (sym h))
 small-mag (inf s) h = absurd (true≢false (sym h))

@@ -3,8 +3,8 @@ use Rattle.std.specs.Prelude.{ℕ, Bool, true, ◌&&◌, List, [], ◌∷◌, ma
 use Rattle.std.specs.Float.Ieee.{lt}
 use Rattle.floats.specs.Algebra.{Algebra}
 use Rattle.floats.specs.Methods.{abs_of}
-use Rattle.floats.specs.Ops.{dbl}
 use Rattle.lists.specs.Lists.{combos, upto}
+use Rattle.geometry.specs.declared.shared.TheConstants.{SMALL}
 use Rattle.geometry.specs.Determinant.{at}
 
 -- ---- minors
@@ -41,11 +41,7 @@ past_zero {A} o d =
 
 -- ---- lengths
 
--- what a length is below in size, for which no determinant of four rows of lengths overflows: 1e75
-abbrev pub small_limit : Float
-small_limit = dbl 0x4f81_afd6_ec0e_1411
-
--- all of these are below it in size; NaN is not
+-- all of these are below `SMALL` in size; NaN is not
 unfoldable pub all_small : List Float → Bool
 all_small [] = true
-all_small (x ∷ xs) = lt (abs_of x) small_limit && all_small xs
+all_small (x ∷ xs) = lt (abs_of x) SMALL && all_small xs

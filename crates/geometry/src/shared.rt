@@ -12,11 +12,14 @@ use floats::abs;
 
 // ---- the guard
 
-// Whether all lengths are below 1e75 in size: then no determinant of four rows of lengths overflows.
+// What a length is below in size: then no determinant of four rows of lengths overflows.
+const SMALL: f64 = 1e75;
+
+// Whether all lengths are.
 pub fn all_small(s: &[f64; 10]) -> bool
     ensures { result ≡ all_small s.now }
 {
-    s.iter().all(|x| abs(*x) < 1e75)
+    s.iter().all(|x| abs(*x) < SMALL)
 }
 
 // ---- minors
