@@ -50,11 +50,11 @@ pub fn too_large(n: usize, numbers: &[u32]) -> bool
     numbers.iter().any(|v| n <= *v as usize)
 }
 
-// Whether v is a vertex of `pent`: the library's method, under the name that clauses and callers cite.
+// Whether v is a vertex of `pent`. No `contains`: for five numbers its search by groups takes twice as long.
 pub fn has(v: u32, pent: &[u32]) -> bool
     ensures { result ≡ among v pent.now }
 {
-    pent.contains(&v)
+    pent.iter().any(|vertex| *vertex == v)
 }
 
 // Whether some vertex of `pent` stands twice.

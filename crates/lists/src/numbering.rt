@@ -20,12 +20,12 @@ pub fn chain_of(row: &[u32]) -> usize
     h
 }
 
-// Whether the row that starts at `at` is `row`: the library's comparison, under the name that clauses and callers cite.
+// Whether the row that starts at `at` is `row`. No `==` of slices: its comparison by groups is a call for two or three numbers.
 pub fn same_row(list: &[u32], at: usize, row: &[u32]) -> bool
     requires { at + length row.now ≤ length list.now }
     ensures { result ≡ eqs row.now (take (length row.now) (drop at list.now)) }
 {
-    row == &list[at..at + row.len()]
+    row.iter().zip(&list[at..at + row.len()]).all(|(a, b)| a == b)
 }
 
 // The number of `row`, which is in this chain, among the first n rows of its width; n where it is not there.

@@ -1,27 +1,46 @@
 -- `lists::numbering::same_row` meets its contract. Assumes nothing.
-use mathlib.Core.Path.{◌≡◌, refl, ap, ◌∙◌}
-use mathlib.Core.Bool.{Bool, ◌&&◌}
+use mathlib.Core.Path.{◌≡◌, refl, sym, ap, ◌∙◌}
+use mathlib.Core.Bool.{Bool, true, false, ◌&&◌}
 use mathlib.Core.List.{List, [], ◌∷◌}
-use Prim.Native.Nat.{ℕ, ◌+◌, ◌-◌}
+use Prim.Native.Nat.{ℕ, zero, suc, ◌+◌, ◌-◌, ◌<◌}
 use native.Mathlib.Omega.{arith}
 use lib.Dec.{eqb}
-use lib.ListN.{length, take, drop}
-use lib.Pointwise.{pointwise}
+use lib.ListN.{length, get_or, take, drop, length-drop}
+use lib.Seq.{length-take-le}
 use Rattle.std.proofs.Common.{rules}
 use Rattle.lists.specs.Keys.{eqs}
 use Rattle.lists.proofs.numbering.same_row.Goals as goal
 
--- the library's test of two lists
-pointwise-eqs : (x y : List ℕ) → pointwise eqb x y ≡ eqs x y
+-- rows of one length whose numbers are the same, place by place
+eqs-all : (x y : List ℕ) → length x ≡ length y → ((i : ℕ) → i < length x → eqb (get_or x i 0) (get_or y i 0) ≡ true) → eqs x y ≡ true
 unfolding eqs
-pointwise-eqs [] [] = refl
-pointwise-eqs [] (y ∷ ys) = refl
-pointwise-eqs (x ∷ xs) [] = refl
-pointwise-eqs (x ∷ xs) (y ∷ ys) = ap (λ (b : Bool). eqb x y && b) (pointwise-eqs xs ys)
+eqs-all [] [] h same = refl
+eqs-all [] (y ∷ ys) h same = absurd (omega arith)
+eqs-all (x ∷ xs) [] h same = absurd (omega arith)
+eqs-all (x ∷ xs) (y ∷ ys) h same = ap (λ (b : Bool). b && eqs xs ys) (same 0 (omega arith)) ∙ eqs-all xs ys (omega arith) (λ i l. same (suc i) (omega arith))
+
+-- and two that differ at a place
+eqs-not : (x y : List ℕ) (i : ℕ) → i < length x → i < length y → eqb (get_or x i 0) (get_or y i 0) ≡ false → eqs x y ≡ false
+unfolding eqs
+eqs-not [] ys i h k differ = absurd (omega arith)
+eqs-not (x ∷ xs) [] i h k differ = refl
+eqs-not (x ∷ xs) (y ∷ ys) zero h k differ = ap (λ (b : Bool). b && eqs xs ys) differ
+eqs-not (x ∷ xs) (y ∷ ys) (suc i) h k differ = ap (λ (b : Bool). eqb x y && b) (eqs-not xs ys i (omega arith) (omega arith) differ) ∙ none (eqb x y)
+  where
+    none : (b : Bool) → (b && false) ≡ false
+    none true = refl
+    none false = refl
+
+-- so a test of all places is the test of the rows
+eqs-is : (x y : List ℕ) → length x ≡ length y → (r : Bool) → (r ≡ true → (i : ℕ) → i < length x → eqb (get_or x i 0) (get_or y i 0) ≡ true) → (r ≡ false → (i : ℕ) × (i < length x) × (eqb (get_or x i 0) (get_or y i 0) ≡ false)) → r ≡ eqs x y
+eqs-is x y h true so not_so = sym (eqs-all x y h (so refl))
+eqs-is x y h false so not_so = let at = not_so refl in sym (eqs-not x y at.0 at.1 (omega (arith, at.1)) at.2)
 
 pub returns : goal.returns
 returns c =
     let a = c.args in
-    let z : a.at + length a.row.now - a.at ≡ length a.row.now = omega arith in
-    let is : c.eq.result ≡ pointwise eqb a.row.now (take (a.at + length a.row.now - a.at) (drop a.at a.list.now)) = search rules in
-    is ∙ pointwise-eqs a.row.now (take (a.at + length a.row.now - a.at) (drop a.at a.list.now)) ∙ ap (λ (n : ℕ). eqs a.row.now (take n (drop a.at a.list.now))) z
+    let w = length a.row.now in
+    let y = take (a.at + w - a.at) (drop a.at a.list.now) in
+    let n : a.at + w - a.at ≡ w = omega arith in
+    let same_length : w ≡ length y = sym (length-take-le (a.at + w - a.at) (drop a.at a.list.now) (omega (arith, length-drop a.at a.list.now)) ∙ n) in
+    eqs-is a.row.now y same_length c.all.result (search rules) (search rules) ∙ ap (λ (k : ℕ). eqs a.row.now (take k (drop a.at a.list.now))) n
