@@ -22,7 +22,7 @@ ghost use Rattle.hessian.specs.Steps.{ahead, diagonal_events, diagonal_of};
 use complex::{Complex, Incidence};
 use hinges::{hinge_at, pent_sq_lengths, tri_sq_lengths};
 use incidence::{PentachoronNumber, TriangleNumber, pent_edge_indices, tri_edge_indices};
-use marks::{mark_pents, mark_tris};
+use marks::{mark_pents, mark_tris, next_marked};
 use second_derivatives::{SquareMatrix, add_first, add_second, places_in};
 
 // ---- what both terms go over
@@ -68,14 +68,12 @@ fn add_pents<'a>(
     requires { (built.now.complex.counts.pentachorons ≤ length marks.now) × (matrix.old.n ≡ length free_edges.now) }
     ensures { Scattered ◌⊕◌ (gather (second_at (faces_of built.now.complex) built.now.sq_lengths.now free_edges.now fd_eps) (marked_below built.now.complex.counts.pentachorons marks.now)) matrix.old matrix.new }
 {
-    for (p, mark) in marks[..built.complex.counts.pentachorons]
-        .iter()
-        .enumerate()
-    {
-        if *mark {
-            let pent = PentachoronNumber(p as u32);
-            add_pent(built, free_edges, fd_eps, pent, matrix);
-        }
+    let front = &marks[..built.complex.counts.pentachorons];
+    let mut p = next_marked(front, 0);
+    while p < front.len() {
+        let pent = PentachoronNumber(p as u32);
+        add_pent(built, free_edges, fd_eps, pent, matrix);
+        p = next_marked(front, p + 1);
     }
 }
 
@@ -128,11 +126,12 @@ fn add_tris<'a>(
     ensures diagonal { diagonal.new ≡ scatter nan ◌⊕◌ (gather (diagonal_at (faces_of built.now.complex) built.now.sq_lengths.now) (marked_below built.now.complex.counts.triangles marks.now)) diagonal.old }
     ensures others { Scattered before (gather (first_at (faces_of built.now.complex) built.now.sq_lengths.now free_edges.now) (marked_below built.now.complex.counts.triangles marks.now)) matrix.old matrix.new }
 {
-    for (t, mark) in marks[..built.complex.counts.triangles].iter().enumerate() {
-        if *mark {
-            let tri = TriangleNumber(t as u32);
-            add_tri(built, free_edges, tri, diagonal, matrix);
-        }
+    let front = &marks[..built.complex.counts.triangles];
+    let mut t = next_marked(front, 0);
+    while t < front.len() {
+        let tri = TriangleNumber(t as u32);
+        add_tri(built, free_edges, tri, diagonal, matrix);
+        t = next_marked(front, t + 1);
     }
 }
 

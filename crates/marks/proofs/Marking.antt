@@ -142,8 +142,7 @@ marked-room marks t n h e =
     let m : length (marked_below (t + 1) marks) ≤ length (marked_below n marks) = subst (λ (k : ℕ). length (marked_below (t + 1) marks) ≤ length (marked_below k marks)) s (marked_more marks (t + 1) (n - (t + 1))) in
     omega arith
 
--- nothing is marked below 0
-pub none_below : (marks : List Bool) → marked_below zero marks ≡ []
+none_below : (marks : List Bool) → marked_below zero marks ≡ []
 unfolding marked_below upto keep
 none_below marks = refl
 
@@ -224,20 +223,25 @@ module _ (marks : List Bool) where
     unfolding next_marked
     next-on = omega (arith, e)
 
+  -- before the first mark there is none
+  pub next-first : (t : ℕ) → t ≡ next_marked 0 marks → marked_below t marks ≡ []
+  next-first t e = next-same 0 t (omega arith) e ∙ none_below marks
+
+  module _ (t next : ℕ) (at : AtMark marks t) (h : t < length marks) (e : next ≡ next_marked (t + 1) marks) where
+    -- one number more is below the next mark
+    pub next-one : marked_below next marks ≡ marked_below t marks ++ t ∷ []
+    next-one = next-same (t + 1) next (omega arith) e ∙ marked-here marks t (at.mark h)
+
 -- ---- loops over marked numbers
 
-module _ {S X : Type 0} (d : S) (f : S → X → S) (event : ℕ → List (ℕ × X)) (marks : List Bool) (t : ℕ) (old now : List S) (was : now ≡ scatter d f (gather event (marked_below t marks)) old) where
-  -- the events of a marked number
-  pub scatter-here : get_or marks t false ≡ true → (es : List (ℕ × X)) → es ≡ event t → (new : List S) → new ≡ scatter d f es now → new ≡ scatter d f (gather event (marked_below (t + 1) marks)) old
-  scatter-here m es e new is =
+module _ {S X : Type 0} (d : S) (f : S → X → S) (event : ℕ → List (ℕ × X)) (marks : List Bool) (t : ℕ) (at : AtMark marks t) (h : t < length marks) (old now : List S) (was : now ≡ scatter d f (gather event (marked_below t marks)) old) where
+  -- the events of a marked number, as a walk leaves them where it goes on to the next one
+  pub scatter-turn : (es : List (ℕ × X)) → es ≡ event t → (new : List S) → new ≡ scatter d f es now → (next : ℕ) → next ≡ next_marked (t + 1) marks → new ≡ scatter d f (gather event (marked_below next marks)) old
+  scatter-turn es e new is next n =
       is
       ∙ rw (e, was) (sym (scatter-append d f (gather event (marked_below t marks)) (event t) old))
       ∙ ap (λ (l : List (ℕ × X)). scatter d f l old) (sym (gather-snoc event (marked_below t marks) t))
-      ∙ ap (λ (l : List ℕ). scatter d f (gather event l) old) (sym (marked-here marks t m))
-
-  -- and of another
-  pub scatter-past : get_or marks t false ≡ false → now ≡ scatter d f (gather event (marked_below (t + 1) marks)) old
-  scatter-past m = was ∙ ap (λ (l : List ℕ). scatter d f (gather event l) old) (sym (marked-past marks t m))
+      ∙ ap (λ (l : List ℕ). scatter d f (gather event l) old) (sym (next-one marks t next at h n))
 
 -- ---- numbers that stand twice
 
