@@ -147,7 +147,29 @@ fn put_diagonal(free_edges: &[u32], diagonal: &[f64], matrix: &mut SquareMatrix<
     }
 }
 
-// What all triangles on free edges add, before what the entries hold.
+// What all triangles on free edges add, before what the entries hold, worked out in marks of T triangles and sums of E edges. Not
+// inlined, so that marks and sums of one size alone lie on the stack, and none while a caller checks the complex.
+#[inline(never)]
+fn add_first_term_in<'a, const T: usize, const E: usize>(
+    built: &Measured<'a>,
+    free_edges: &'a [u32],
+    matrix: &mut SquareMatrix<'_>,
+)
+    requires { (IsHolding (triangles_of built.now.complex) (edges_of built.now.complex) built.now.complex.edge_to_tris)
+        × Below free_edges.now built.now.complex.counts.edges × (built.now.complex.counts.triangles ≤ T) × (T ≤ 81920)
+        × (built.now.complex.counts.edges ≤ E) × (E ≤ 81920) × (matrix.old.n ≡ length free_edges.now) }
+    ensures lent { matrix.new.entries.ghost_name ≡ matrix.old.entries.ghost_name }
+    ensures entries { matrix.new.entries.now ≡ scatter nan ahead (diagonal_events free_edges.now (diagonal_of (faces_of built.now.complex) built.now.sq_lengths.now free_edges.now))
+        (scatter nan before (gather (first_at (faces_of built.now.complex) built.now.sq_lengths.now free_edges.now) (local_triangles (faces_of built.now.complex) free_edges.now)) matrix.old.entries.now) }
+{
+    let mut marks = [false; T];
+    let mut diagonal = [0.0; E];
+    mark_tris(&built.complex, free_edges, &mut marks);
+    add_tris(built, free_edges, &marks, &mut diagonal, matrix);
+    put_diagonal(free_edges, &diagonal, matrix);
+}
+
+// The same in as many marks and sums as the complex asks for: to clear all that there may be takes longer than several triangles.
 fn add_first_term<'a>(built: &Measured<'a>, free_edges: &'a [u32], matrix: &mut SquareMatrix<'_>)
     requires { (IsHolding (triangles_of built.now.complex) (edges_of built.now.complex) built.now.complex.edge_to_tris)
         × Below free_edges.now built.now.complex.counts.edges × (built.now.complex.counts.edges ≤ 81920) × (matrix.old.n ≡ length free_edges.now) }
@@ -155,11 +177,11 @@ fn add_first_term<'a>(built: &Measured<'a>, free_edges: &'a [u32], matrix: &mut 
     ensures entries { matrix.new.entries.now ≡ scatter nan ahead (diagonal_events free_edges.now (diagonal_of (faces_of built.now.complex) built.now.sq_lengths.now free_edges.now))
         (scatter nan before (gather (first_at (faces_of built.now.complex) built.now.sq_lengths.now free_edges.now) (local_triangles (faces_of built.now.complex) free_edges.now)) matrix.old.entries.now) }
 {
-    let mut marks = [false; 81920];
-    let mut diagonal = [0.0; 81920];
-    mark_tris(&built.complex, free_edges, &mut marks);
-    add_tris(built, free_edges, &marks, &mut diagonal, matrix);
-    put_diagonal(free_edges, &diagonal, matrix);
+    let counts = built.complex.counts;
+    if counts.triangles <= 16384 && counts.edges <= 8192 {
+        return add_first_term_in::<16384, 8192>(built, free_edges, matrix);
+    }
+    add_first_term_in::<81920, 81920>(built, free_edges, matrix);
 }
 
 // ---- the whole

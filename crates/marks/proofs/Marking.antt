@@ -232,6 +232,12 @@ module _ (marks : List Bool) where
     pub next-one : marked_below next marks ≡ marked_below t marks ++ t ∷ []
     next-one = next-same (t + 1) next (omega arith) e ∙ marked-here marks t (at.mark h)
 
+-- a walk over the first n marks that stands behind the last has met what is marked below n
+pub walk-ended : (marks : List Bool) (n t : ℕ) → n ≤ length marks → AtMark (take n marks) t → length (take n marks) ≤ t → marked_below t (take n marks) ≡ marked_below n marks
+walk-ended marks n t h at e =
+    let end : t ≡ length (take n marks) = omega (arith, at.within) in
+    ap (λ (k : ℕ). marked_below k (take n marks)) end ∙ marked-front marks n h
+
 -- ---- loops over marked numbers
 
 module _ {S X : Type 0} (d : S) (f : S → X → S) (event : ℕ → List (ℕ × X)) (marks : List Bool) (t : ℕ) (at : AtMark marks t) (h : t < length marks) (old now : List S) (was : now ≡ scatter d f (gather event (marked_below t marks)) old) where

@@ -8,7 +8,7 @@ use lib.ListN.{length, take}
 use lib.Seq.{length-take-le}
 use Rattle.floats.specs.Ops.{◌⊕◌}
 use Rattle.marks.specs.Marks.{marked_below}
-use Rattle.marks.proofs.Marking.{marked-front, next-stands, next-on}
+use Rattle.marks.proofs.Marking.{next-stands, next-on, walk-ended}
 use Rattle.hinges.specs.Hinges.{faces_of}
 use Rattle.hessian.specs.Parts.{second_at}
 use Rattle.hessian.proofs.Again.{measured-of}
@@ -47,8 +47,5 @@ loop-p-preserved c =
 pub returns : goal.returns
 returns c =
     let l = c.loop-p in
-    let M = c.args.marks.now in
-    let n = c.args.built.now.complex.counts.pentachorons in
-    let e : l.p ≡ length (take n M) = omega (arith, c.loop-p-test.false, l.invariant.0.within) in
-    let own : marked_below l.p (take n M) ≡ marked_below n M = ap (λ k. marked_below k (take n M)) e ∙ marked-front M n c.requires.0 in
+    let own = walk-ended c.args.marks.now c.args.built.now.complex.counts.pentachorons l.p c.requires.0 l.invariant.0 (omega (arith, c.loop-p-test.false)) in
     rw own at l.invariant.1

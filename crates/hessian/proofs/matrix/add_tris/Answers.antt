@@ -1,6 +1,6 @@
 -- `hessian::matrix::add_tris` meets its contract. Assumes nothing.
 use Prim.Native.Nat.{ℕ, ◌+◌}
-use mathlib.Core.List.{List, []}
+use mathlib.Core.List.{List}
 use mathlib.Core.Path.{◌≡◌, refl, sym, ap, ◌∙◌}
 use native.Mathlib.Omega.{arith}
 use lib.Ieee.{Float, nan}
@@ -10,7 +10,7 @@ use Rattle.floats.specs.Ops.{◌⊕◌}
 use Rattle.lists.specs.Lists.{gather}
 use Rattle.lists.specs.Loops.{scatter}
 use Rattle.marks.specs.Marks.{marked_below}
-use Rattle.marks.proofs.Marking.{AtMark, marked-front, next-stands, next-on, next-first, scatter-turn}
+use Rattle.marks.proofs.Marking.{next-stands, next-on, next-first, scatter-turn, walk-ended}
 use Rattle.hinges.specs.Hinges.{FaceLists, faces_of}
 use Rattle.second_derivatives.specs.Parts.{before}
 use Rattle.hessian.specs.Parts.{diagonal_at, first_at}
@@ -62,8 +62,5 @@ loop-t-preserved c =
 pub returns : goal.returns
 returns c =
     let l = c.loop-t in
-    let M = c.args.marks.now in
-    let n = c.args.built.now.complex.counts.triangles in
-    let e : l.t ≡ length (take n M) = omega (arith, c.loop-t-test.false, l.invariant.0.within) in
-    let own : marked_below l.t (take n M) ≡ marked_below n M = ap (λ k. marked_below k (take n M)) e ∙ marked-front M n c.requires.0 in
+    let own = walk-ended c.args.marks.now c.args.built.now.complex.counts.triangles l.t c.requires.0 l.invariant.0 (omega (arith, c.loop-t-test.false)) in
     record { diagonal = rw own at l.invariant.2; others = rw own at l.invariant.3 }

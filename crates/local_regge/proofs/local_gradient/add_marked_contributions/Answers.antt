@@ -11,7 +11,7 @@ use Rattle.lists.specs.Loops.{scatter}
 use Rattle.lists.proofs.Rows.{length-rows}
 use Rattle.incidence.specs.Incidence.{edge_list}
 use Rattle.marks.specs.Marks.{marked_below}
-use Rattle.marks.proofs.Marking.{marked-front, next-stands, next-on, next-first, scatter-turn}
+use Rattle.marks.proofs.Marking.{next-stands, next-on, next-first, scatter-turn, walk-ended}
 use Rattle.hinges.specs.declared.hinge.Hinge.{Hinge}
 use Rattle.hinges.specs.Hinges.{FaceLists, hinges, lengths_at, deficits_of, faces_of}
 use Rattle.hinges.specs.Action.{edges_at, tri_lengths, contributions_of, contributions}
@@ -88,8 +88,5 @@ loop-t-preserved c =
 pub returns : goal.returns
 returns c =
     let l = c.loop-t in
-    let M = c.args.marks.now in
-    let n = c.args.built.now.complex.counts.triangles in
-    let e : l.t ≡ length (take n M) = omega (arith, c.loop-t-test.false, l.invariant.0.within) in
-    let own : marked_below l.t (take n M) ≡ marked_below n M = ap (λ k. marked_below k (take n M)) e ∙ marked-front M n c.requires.1 in
+    let own = walk-ended c.args.marks.now c.args.built.now.complex.counts.triangles l.t c.requires.1 l.invariant.0 (omega (arith, c.loop-t-test.false)) in
     rw own at l.invariant.1
