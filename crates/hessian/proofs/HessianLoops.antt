@@ -1,14 +1,14 @@
 -- The loops of the local Hessian: the turns at marked numbers, and what one pentachoron and one triangle put into the matrix. Assumes nothing.
 use Prim.Native.Nat.{ℕ, ◌+◌, ◌<◌}
-use mathlib.Core.Bool.{Bool, true, false}
+use mathlib.Core.Bool.{Bool}
 use mathlib.Core.List.{List, [], ◌∷◌, map}
 use mathlib.Core.Path.{◌≡◌, refl, ap, ◌∙◌}
 use lib.Ieee.{Float, nan}
 use lib.ListN.{length, get_or}
-use Rattle.lists.specs.Lists.{keep, gather, upto}
+use Rattle.lists.specs.Lists.{gather}
 use Rattle.complex.specs.Complex.{row_numbers}
 use Rattle.marks.specs.Marks.{marked_below, next_marked}
-use Rattle.marks.proofs.Marking.{AtMark, next-first, scatter-turn}
+use Rattle.marks.proofs.Marking.{AtMark, next-first, scatter-marked}
 use Rattle.hinges.specs.declared.hinge.Hinge.{Hinge}
 use Rattle.hinges.specs.Hinges.{FaceLists, lengths_at, pent_lengths, hinges, hinge_in}
 use Rattle.hinges.specs.Action.{edges_at, tri_lengths}
@@ -33,7 +33,7 @@ module _ (f : Float → Float → Float) (event : ℕ → List (ℕ × Float)) (
       record {
         size = is.size ∙ was.size;
         lent = is.lent ∙ was.lent;
-        entries = scatter-turn nan f event marks t at h old.entries.now now.entries.now was.entries es e new.entries.now is.entries next n;
+        entries = scatter-marked nan f event marks t at h old.entries.now now.entries.now was.entries es e new.entries.now is.entries next n;
       }
 
 -- ---- single addends

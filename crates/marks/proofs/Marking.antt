@@ -242,8 +242,8 @@ walk-ended marks n t h at e =
 
 module _ {S X : Type 0} (d : S) (f : S → X → S) (event : ℕ → List (ℕ × X)) (marks : List Bool) (t : ℕ) (at : AtMark marks t) (h : t < length marks) (old now : List S) (was : now ≡ scatter d f (gather event (marked_below t marks)) old) where
   -- the events of a marked number, as a walk leaves them where it goes on to the next one
-  pub scatter-turn : (es : List (ℕ × X)) → es ≡ event t → (new : List S) → new ≡ scatter d f es now → (next : ℕ) → next ≡ next_marked (t + 1) marks → new ≡ scatter d f (gather event (marked_below next marks)) old
-  scatter-turn es e new is next n =
+  pub scatter-marked : (es : List (ℕ × X)) → es ≡ event t → (new : List S) → new ≡ scatter d f es now → (next : ℕ) → next ≡ next_marked (t + 1) marks → new ≡ scatter d f (gather event (marked_below next marks)) old
+  scatter-marked es e new is next n =
       is
       ∙ rw (e, was) (sym (scatter-append d f (gather event (marked_below t marks)) (event t) old))
       ∙ ap (λ (l : List (ℕ × X)). scatter d f l old) (sym (gather-snoc event (marked_below t marks) t))

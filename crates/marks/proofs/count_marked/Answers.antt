@@ -1,7 +1,7 @@
 -- `marks::count_marked` meets its contract. Assumes nothing.
 use Prim.Native.Nat.{◌+◌}
 use mathlib.Core.List.{[], ◌∷◌}
-use mathlib.Core.Path.{sym, ap, ◌∙◌}
+use mathlib.Core.Path.{sym, ap}
 use native.Mathlib.Omega.{arith}
 use lib.ListN.{length, length-append}
 use Rattle.marks.specs.Marks.{marked_below}

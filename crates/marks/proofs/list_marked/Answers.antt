@@ -1,7 +1,7 @@
 -- `marks::list_marked` meets its contract. Assumes nothing.
 use Prim.Native.Nat.{◌+◌}
 use mathlib.Core.List.{[], ◌∷◌, ◌++◌}
-use mathlib.Core.Path.{sym, ap, ◌∙◌}
+use mathlib.Core.Path.{sym, ap}
 use native.Mathlib.Omega.{arith}
 use lib.ListN.{length, length-append}
 use Rattle.lists.proofs.Rows.{front-turn}

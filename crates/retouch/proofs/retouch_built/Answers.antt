@@ -1,15 +1,7 @@
 -- `retouch::retouch_built` meets its contract. Assumes nothing.
-use Prim.Native.Nat.{ℕ}
-use mathlib.Core.Path.{refl, sym, ap, ◌∙◌}
-use native.Mathlib.Omega.{arith}
-use lib.ListN.{length, length-set}
-use Rattle.std.proofs.lemmas.List.{length-take-le}
-use Rattle.lists.specs.Writes.{writes}
-use Rattle.lorentzian.specs.Dihedral.{kind_number}
-use Rattle.marks.proofs.Marking.{scratch-room}
-use Rattle.hinges.specs.Hinges.{faces_of}
+use mathlib.Core.Path.{sym, ◌∙◌}
+use lib.ListN.{length}
 use Rattle.calls.proofs.BuiltCalls.{returned, lengths-refused}
-use Rattle.retouch.specs.Retouch.{anew}
 use Rattle.retouch.proofs.TouchedSteps.{edge-second, others-third, table-room, Passed, retouch-passed, retouched-refused}
 use Rattle.retouch.proofs.retouch_built.Goals as goal
 use Rattle.retouch.proofs.retouch_built.Goals.{In_ok-check_edge}

@@ -1,8 +1,7 @@
 -- `retouch::rework_in` meets its contract. Assumes nothing.
-use mathlib.Core.Path.{refl, sym, ap, ◌∙◌}
+use mathlib.Core.Path.{refl, ap, ◌∙◌}
 use native.Mathlib.Omega.{arith}
 use lib.ListN.{length, length-set}
-use Rattle.std.proofs.lemmas.List.{length-take-le}
 use Rattle.lists.specs.Writes.{writes}
 use Rattle.lorentzian.specs.Dihedral.{kind_number}
 use Rattle.hinges.specs.Hinges.{faces_of}

@@ -14,7 +14,6 @@ use Rattle.hinges.specs.Local.{local_triangles}
 use Rattle.second_derivatives.specs.Parts.{before}
 use Rattle.hessian.specs.Parts.{first_at}
 use Rattle.hessian.specs.Steps.{ahead, diagonal_events}
-use Rattle.hessian.proofs.Again.{measured-of}
 use Rattle.hessian.proofs.HessianTerms.{on-free, sums-whole}
 use Rattle.hessian.proofs.matrix.add_first_term_in.Goals as goal
 

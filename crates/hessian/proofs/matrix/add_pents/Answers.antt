@@ -1,13 +1,12 @@
 -- `hessian::matrix::add_pents` meets its contract. Assumes nothing.
 use Prim.Native.Nat.{ℕ, ◌+◌}
 use mathlib.Core.List.{List}
-use mathlib.Core.Path.{◌≡◌, refl, ap, ◌∙◌}
+use mathlib.Core.Path.{refl}
 use native.Mathlib.Omega.{arith}
 use lib.Ieee.{Float}
-use lib.ListN.{length, take}
+use lib.ListN.{take}
 use lib.Seq.{length-take-le}
 use Rattle.floats.specs.Ops.{◌⊕◌}
-use Rattle.marks.specs.Marks.{marked_below}
 use Rattle.marks.proofs.Marking.{next-stands, next-on, walk-ended}
 use Rattle.hinges.specs.Hinges.{faces_of}
 use Rattle.hessian.specs.Parts.{second_at}

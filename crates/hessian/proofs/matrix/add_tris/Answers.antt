@@ -1,16 +1,15 @@
 -- `hessian::matrix::add_tris` meets its contract. Assumes nothing.
 use Prim.Native.Nat.{ℕ, ◌+◌}
 use mathlib.Core.List.{List}
-use mathlib.Core.Path.{◌≡◌, refl, sym, ap, ◌∙◌}
+use mathlib.Core.Path.{refl, sym, ap, ◌∙◌}
 use native.Mathlib.Omega.{arith}
 use lib.Ieee.{Float, nan}
-use lib.ListN.{length, take}
+use lib.ListN.{take}
 use lib.Seq.{length-take-le}
 use Rattle.floats.specs.Ops.{◌⊕◌}
 use Rattle.lists.specs.Lists.{gather}
 use Rattle.lists.specs.Loops.{scatter}
-use Rattle.marks.specs.Marks.{marked_below}
-use Rattle.marks.proofs.Marking.{next-stands, next-on, next-first, scatter-turn, walk-ended}
+use Rattle.marks.proofs.Marking.{next-stands, next-on, next-first, scatter-marked, walk-ended}
 use Rattle.hinges.specs.Hinges.{FaceLists, faces_of}
 use Rattle.second_derivatives.specs.Parts.{before}
 use Rattle.hessian.specs.Parts.{diagonal_at, first_at}
@@ -55,7 +54,7 @@ loop-t-preserved c =
     let f = c.add_tri in (
       next-stands front (l.t + 1) next.result (omega (arith, h)) next.ensures,
       f.auto.diagonal ∙ l.invariant.1,
-      scatter-turn nan ◌⊕◌ diagonals front l.t l.invariant.0 h a.diagonal.now l.diagonal l.invariant.2 _ refl _ f.ensures.diagonal next.result next.ensures,
+      scatter-marked nan ◌⊕◌ diagonals front l.t l.invariant.0 h a.diagonal.now l.diagonal l.invariant.2 _ refl _ f.ensures.diagonal next.result next.ensures,
       scattered-marked before others front l.t l.invariant.0 h a.matrix.now l.matrix l.invariant.3 _ refl _ f.ensures.others next.result next.ensures,
     )
 

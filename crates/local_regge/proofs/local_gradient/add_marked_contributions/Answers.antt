@@ -10,8 +10,7 @@ use Rattle.lists.specs.Lists.{gather}
 use Rattle.lists.specs.Loops.{scatter}
 use Rattle.lists.proofs.Rows.{length-rows}
 use Rattle.incidence.specs.Incidence.{edge_list}
-use Rattle.marks.specs.Marks.{marked_below}
-use Rattle.marks.proofs.Marking.{next-stands, next-on, next-first, scatter-turn, walk-ended}
+use Rattle.marks.proofs.Marking.{next-stands, next-on, next-first, scatter-marked, walk-ended}
 use Rattle.hinges.specs.declared.hinge.Hinge.{Hinge}
 use Rattle.hinges.specs.Hinges.{FaceLists, hinges, lengths_at, deficits_of, faces_of}
 use Rattle.hinges.specs.Action.{edges_at, tri_lengths, contributions_of, contributions}
@@ -82,7 +81,7 @@ loop-t-preserved c =
     ∙ ap (λ r. contributions_of (edges_at F l.t) r g.result.deficit) (s.ensures ∙ ap (lengths_at ls) own.ensures)
     ∙ ap (contributions_of (edges_at F l.t) (tri_lengths F ls l.t)) (ap (λ (u : Hinge). u.deficit) g.ensures ∙ deficit-at F ls l.t (omega (arith, below (goal.at.loop-t-preserved c).In-loop-t, length-rows 3 n a.built.now.complex.triangles.now))) in (
       next-stands front (l.t + 1) next.result (omega (arith, h)) next.ensures,
-      scatter-turn nan ◌⊕◌ (contributions F ls ds) front l.t l.invariant.0 h a.entries.now l.entries l.invariant.1 _ e _ c.add_contributions.ensures next.result next.ensures,
+      scatter-marked nan ◌⊕◌ (contributions F ls ds) front l.t l.invariant.0 h a.entries.now l.entries l.invariant.1 _ e _ c.add_contributions.ensures next.result next.ensures,
     )
 
 pub returns : goal.returns

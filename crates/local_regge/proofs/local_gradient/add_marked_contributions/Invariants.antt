@@ -2,7 +2,7 @@
 use Prim.Native.Nat.{◌-◌}
 use mathlib.Core.Path.{◌≡◌}
 use lib.Ieee.{nan}
-use lib.ListN.{length, take}
+use lib.ListN.{length}
 use Rattle.floats.specs.Ops.{◌⊕◌}
 use Rattle.lists.specs.Lists.{gather}
 use Rattle.lists.specs.Loops.{scatter}

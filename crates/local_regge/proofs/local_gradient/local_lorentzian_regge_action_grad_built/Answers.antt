@@ -1,6 +1,5 @@
 -- `local_regge::local_gradient::local_lorentzian_regge_action_grad_built` meets its contract. Assumes nothing.
-use mathlib.Core.Path.{refl, sym, ◌∙◌}
-use native.Mathlib.Omega.{arith}
+use mathlib.Core.Path.{sym, ◌∙◌}
 use lib.ListN.{length}
 use borrow.Author.Tests.{ltb-false}
 use Rattle.calls.proofs.BuiltCalls.{returned, few-edges, room-passed, filled-refused}
