@@ -57,13 +57,14 @@ pub fn has(v: u32, pent: &[u32]) -> bool
     pent.iter().any(|vertex| *vertex == v)
 }
 
-// Whether some vertex of `pent` stands twice.
-fn repeats(pent: &[u32]) -> bool
-    ensures { result ≡ repeats pent.now }
+// Whether some number stands twice, of few: pairs are compared.
+pub fn repeats(numbers: &[u32]) -> bool
+    ensures { result ≡ repeats numbers.now }
 {
-    pent.iter()
+    numbers
+        .iter()
         .enumerate()
-        .any(|(i, v)| has(*v, &pent[i + 1..]))
+        .any(|(i, v)| has(*v, &numbers[i + 1..]))
 }
 
 // The refusal of the earliest offending pentachoron.

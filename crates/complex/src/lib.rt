@@ -7,7 +7,7 @@ mod numbering;
 mod sorting;
 
 pub use adjacency_lists::{adjacency, edge_at};
-pub use checks::{Rooms, check, has, too_large};
+pub use checks::{Rooms, check, has, repeats, too_large};
 pub use numbering::{Face, FaceCounts, number_all};
 pub use sorting::{sort_all, sorted};
 

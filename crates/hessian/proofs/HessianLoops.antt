@@ -1,14 +1,14 @@
 -- The loops of the local Hessian: the turns at marked numbers, and what one pentachoron and one triangle put into the matrix. Assumes nothing.
-use Prim.Native.Nat.{ℕ, ◌+◌}
-use mathlib.Core.Bool.{Bool, true, false}
+use Prim.Native.Nat.{ℕ, ◌+◌, ◌<◌}
+use mathlib.Core.Bool.{Bool}
 use mathlib.Core.List.{List, [], ◌∷◌, map}
 use mathlib.Core.Path.{◌≡◌, refl, ap, ◌∙◌}
 use lib.Ieee.{Float, nan}
 use lib.ListN.{length, get_or}
-use Rattle.lists.specs.Lists.{keep, gather, upto}
+use Rattle.lists.specs.Lists.{gather}
 use Rattle.complex.specs.Complex.{row_numbers}
-use Rattle.marks.specs.Marks.{marked_below}
-use Rattle.marks.proofs.Marking.{scatter-here, scatter-past}
+use Rattle.marks.specs.Marks.{marked_below, next_marked}
+use Rattle.marks.proofs.Marking.{AtMark, next-first, scatter-marked}
 use Rattle.hinges.specs.declared.hinge.Hinge.{Hinge}
 use Rattle.hinges.specs.Hinges.{FaceLists, lengths_at, pent_lengths, hinges, hinge_in}
 use Rattle.hinges.specs.Action.{edges_at, tri_lengths}
@@ -22,23 +22,19 @@ use Rattle.hessian.specs.Parts.{diagonal_at, first_at, second_at}
 -- ---- marks
 
 -- a loop over marked numbers has not begun
-pub scattered-unmarked : (f : Float → Float → Float) (event : ℕ → List (ℕ × Float)) (marks : List Bool) (m : SquareMatrix) → Scattered f (gather event (marked_below 0 marks)) m m
-unfolding marked_below keep upto gather
-scattered-unmarked f event marks m = scattered-none f m
+pub scattered-unmarked : (f : Float → Float → Float) (event : ℕ → List (ℕ × Float)) (marks : List Bool) (t : ℕ) → t ≡ next_marked 0 marks → (m : SquareMatrix) → Scattered f (gather event (marked_below t marks)) m m
+unfolding gather
+scattered-unmarked f event marks t e m = rw (next-first marks t e) (scattered-none f m)
 
-module _ (f : Float → Float → Float) (event : ℕ → List (ℕ × Float)) (marks : List Bool) (t : ℕ) (old now : SquareMatrix) (was : Scattered f (gather event (marked_below t marks)) old now) where
+module _ (f : Float → Float → Float) (event : ℕ → List (ℕ × Float)) (marks : List Bool) (t : ℕ) (at : AtMark marks t) (h : t < length marks) (old now : SquareMatrix) (was : Scattered f (gather event (marked_below t marks)) old now) where
   -- the turn of a marked number
-  pub scattered-here : get_or marks t false ≡ true → (es : List (ℕ × Float)) → es ≡ event t → (new : SquareMatrix) → Scattered f es now new → Scattered f (gather event (marked_below (t + 1) marks)) old new
-  scattered-here m es e new is =
+  pub scattered-marked : (es : List (ℕ × Float)) → es ≡ event t → (new : SquareMatrix) → Scattered f es now new → (next : ℕ) → next ≡ next_marked (t + 1) marks → Scattered f (gather event (marked_below next marks)) old new
+  scattered-marked es e new is next n =
       record {
         size = is.size ∙ was.size;
         lent = is.lent ∙ was.lent;
-        entries = scatter-here nan f event marks t old.entries.now now.entries.now was.entries m es e new.entries.now is.entries;
+        entries = scatter-marked nan f event marks t at h old.entries.now now.entries.now was.entries es e new.entries.now is.entries next n;
       }
-
-  -- and of another
-  pub scattered-past : get_or marks t false ≡ false → Scattered f (gather event (marked_below (t + 1) marks)) old now
-  scattered-past m = record { size = was.size; lent = was.lent; entries = scatter-past nan f event marks t old.entries.now now.entries.now was.entries m }
 
 -- ---- single addends
 

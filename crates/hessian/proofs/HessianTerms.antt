@@ -1,18 +1,19 @@
 -- The two terms of the local Hessian over all triangles and pentachorons on free edges, from lists of marks and sums in scratch. Assumes nothing.
-use Prim.Native.Nat.{ℕ, ◌*◌, ◌≤◌, ◌<◌}
+use Prim.Native.Nat.{ℕ, ◌+◌, ◌*◌, ◌≤◌, ◌<◌}
 use mathlib.Core.Bool.{Bool, false}
-use mathlib.Core.List.{List, ◌++◌}
-use mathlib.Core.Path.{◌≡◌, refl, ap, ◌∙◌}
+use mathlib.Core.List.{List, ◌++◌, foldl}
+use mathlib.Core.Path.{◌≡◌, refl, sym, ap, ◌∙◌}
 use native.Mathlib.Omega.{arith}
 use lib.Ieee.{Float, nan}
-use lib.ListN.{length, get_or, take, drop, replicate, length-replicate}
+use lib.ListN.{length, get_or, take, drop, replicate, length-replicate, get_or-replicate}
 use lib.Seq.{length-take-le}
 use Rattle.floats.specs.Ops.{◌⊕◌, zero}
-use Rattle.lists.specs.Lists.{gather, Once}
+use Rattle.lists.specs.Lists.{gather, upto, Once}
 use Rattle.lists.specs.Rows.{over}
 use Rattle.lists.specs.Groups.{Below}
-use Rattle.lists.specs.Loops.{scatter}
-use Rattle.lists.proofs.Elements.{mem-get_or}
+use Rattle.lists.specs.Loops.{scatter, hits}
+use Rattle.lists.proofs.Elements.{map_same, mem-upto, mem-get_or}
+use Rattle.lists.proofs.Loops.{scatter-at}
 use Rattle.complex.specs.declared.Complex.{Complex}
 use Rattle.complex.specs.declared.Incidence.{Incidence}
 use Rattle.marks.specs.Marks.{met, listed, marked, marked_below}
@@ -37,14 +38,28 @@ pub zeros-first : (n : ℕ) (old front : List Float) → n ≤ length old → fr
 unfolding over
 zeros-first n old front h e = rw (e, length-take-le n old h, length-replicate) refl
 
--- the sums on the diagonal are those of the triangles on free edges
-pub sums-whole : (F : FaceLists) (ls : List Float) (free : List ℕ) (m : ℕ) → m ≡ 81920 → (own : List ℕ) (sums₀ sums : List Float) → own ≡ local_triangles F free → sums₀ ≡ replicate m zero
-    → sums ≡ scatter nan ◌⊕◌ (gather (diagonal_at F ls) own) sums₀ → sums ≡ diagonal_of F ls free
+module _ (events : List (ℕ × Float)) (free : List ℕ) where
+  -- a sum in scratch of m places
+  sum-at : (m e : ℕ) → e < m → get_or (scatter nan ◌⊕◌ events (replicate m zero)) e nan ≡ foldl ◌⊕◌ zero (hits e events)
+  sum-at m e h =
+      scatter-at nan ◌⊕◌ events (replicate m zero) e (omega (arith, length-replicate m zero))
+      ∙ ap (λ (x : Float). foldl ◌⊕◌ x (hits e events)) (get_or-replicate m e zero nan h)
+
+  -- the sums of free edges are the same in scratch of m and of k places
+  sums-alike : (m k : ℕ) → Below free m → Below free k → diagonal_events free (scatter nan ◌⊕◌ events (replicate m zero)) ≡ diagonal_events free (scatter nan ◌⊕◌ events (replicate k zero))
+  unfolding diagonal_events
+  sums-alike m k a b =
+      map_same _ _ (upto (length free)) (λ i h.
+      let l = mem-upto (length free) i h in
+      ap (λ (x : Float). (i * length free + i, x)) (sum-at m (get_or free i 0) (a i l) ∙ sym (sum-at k (get_or free i 0) (b i l))))
+
+-- the sums on the diagonal are those of the triangles on free edges, in scratch of m places
+pub sums-whole : (F : FaceLists) (ls : List Float) (free : List ℕ) (m : ℕ) → Below free m → Below free 81920 → (own : List ℕ) (sums₀ sums : List Float) → own ≡ local_triangles F free → sums₀ ≡ replicate m zero
+    → sums ≡ scatter nan ◌⊕◌ (gather (diagonal_at F ls) own) sums₀ → diagonal_events free sums ≡ diagonal_events free (diagonal_of F ls free)
 unfolding diagonal_of
-sums-whole F ls free m large own sums₀ sums o z is =
-    is
-    ∙ ap (λ (xs : List ℕ). scatter nan ◌⊕◌ (gather (diagonal_at F ls) xs) sums₀) o
-    ∙ ap (scatter nan ◌⊕◌ (gather (diagonal_at F ls) (local_triangles F free))) (z ∙ ap (λ (k : ℕ). replicate k zero) large)
+sums-whole F ls free m low few own sums₀ sums o z is =
+    ap (diagonal_events free) (is ∙ ap (λ (xs : List ℕ). scatter nan ◌⊕◌ (gather (diagonal_at F ls) xs) sums₀) o ∙ ap (scatter nan ◌⊕◌ (gather (diagonal_at F ls) (local_triangles F free))) z)
+    ∙ sums-alike (gather (diagonal_at F ls) (local_triangles F free)) free m 81920 low few
 
 module _ (x : Complex) (i : Incidence) (n : ℕ) (ok : IsMeasured x i n) (ls : List Float) (free : List ℕ) (eps : Float) where
   abbrev F : FaceLists

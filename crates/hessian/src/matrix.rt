@@ -22,7 +22,7 @@ ghost use Rattle.hessian.specs.Steps.{ahead, diagonal_events, diagonal_of};
 use complex::{Complex, Incidence};
 use hinges::{hinge_at, pent_sq_lengths, tri_sq_lengths};
 use incidence::{PentachoronNumber, TriangleNumber, pent_edge_indices, tri_edge_indices};
-use marks::{mark_pents, mark_tris};
+use marks::{mark_pents, mark_tris, next_marked};
 use second_derivatives::{SquareMatrix, add_first, add_second, places_in};
 
 // ---- what both terms go over
@@ -68,14 +68,12 @@ fn add_pents<'a>(
     requires { (built.now.complex.counts.pentachorons ≤ length marks.now) × (matrix.old.n ≡ length free_edges.now) }
     ensures { Scattered ◌⊕◌ (gather (second_at (faces_of built.now.complex) built.now.sq_lengths.now free_edges.now fd_eps) (marked_below built.now.complex.counts.pentachorons marks.now)) matrix.old matrix.new }
 {
-    for (p, mark) in marks[..built.complex.counts.pentachorons]
-        .iter()
-        .enumerate()
-    {
-        if *mark {
-            let pent = PentachoronNumber(p as u32);
-            add_pent(built, free_edges, fd_eps, pent, matrix);
-        }
+    let front = &marks[..built.complex.counts.pentachorons];
+    let mut p = next_marked(front, 0);
+    while p < front.len() {
+        let pent = PentachoronNumber(p as u32);
+        add_pent(built, free_edges, fd_eps, pent, matrix);
+        p = next_marked(front, p + 1);
     }
 }
 
@@ -128,11 +126,12 @@ fn add_tris<'a>(
     ensures diagonal { diagonal.new ≡ scatter nan ◌⊕◌ (gather (diagonal_at (faces_of built.now.complex) built.now.sq_lengths.now) (marked_below built.now.complex.counts.triangles marks.now)) diagonal.old }
     ensures others { Scattered before (gather (first_at (faces_of built.now.complex) built.now.sq_lengths.now free_edges.now) (marked_below built.now.complex.counts.triangles marks.now)) matrix.old matrix.new }
 {
-    for (t, mark) in marks[..built.complex.counts.triangles].iter().enumerate() {
-        if *mark {
-            let tri = TriangleNumber(t as u32);
-            add_tri(built, free_edges, tri, diagonal, matrix);
-        }
+    let front = &marks[..built.complex.counts.triangles];
+    let mut t = next_marked(front, 0);
+    while t < front.len() {
+        let tri = TriangleNumber(t as u32);
+        add_tri(built, free_edges, tri, diagonal, matrix);
+        t = next_marked(front, t + 1);
     }
 }
 
@@ -148,7 +147,29 @@ fn put_diagonal(free_edges: &[u32], diagonal: &[f64], matrix: &mut SquareMatrix<
     }
 }
 
-// What all triangles on free edges add, before what the entries hold.
+// What all triangles on free edges add, before what the entries hold, worked out in marks of T triangles and sums of E edges. Not
+// inlined, so that marks and sums of one size alone lie on the stack, and none while a caller checks the complex.
+#[inline(never)]
+fn add_first_term_in<'a, const T: usize, const E: usize>(
+    built: &Measured<'a>,
+    free_edges: &'a [u32],
+    matrix: &mut SquareMatrix<'_>,
+)
+    requires { (IsHolding (triangles_of built.now.complex) (edges_of built.now.complex) built.now.complex.edge_to_tris)
+        × Below free_edges.now built.now.complex.counts.edges × (built.now.complex.counts.triangles ≤ T) × (T ≤ 81920)
+        × (built.now.complex.counts.edges ≤ E) × (E ≤ 81920) × (matrix.old.n ≡ length free_edges.now) }
+    ensures lent { matrix.new.entries.ghost_name ≡ matrix.old.entries.ghost_name }
+    ensures entries { matrix.new.entries.now ≡ scatter nan ahead (diagonal_events free_edges.now (diagonal_of (faces_of built.now.complex) built.now.sq_lengths.now free_edges.now))
+        (scatter nan before (gather (first_at (faces_of built.now.complex) built.now.sq_lengths.now free_edges.now) (local_triangles (faces_of built.now.complex) free_edges.now)) matrix.old.entries.now) }
+{
+    let mut marks = [false; T];
+    let mut diagonal = [0.0; E];
+    mark_tris(&built.complex, free_edges, &mut marks);
+    add_tris(built, free_edges, &marks, &mut diagonal, matrix);
+    put_diagonal(free_edges, &diagonal, matrix);
+}
+
+// The same in as many marks and sums as the complex asks for: to clear all that there may be takes longer than several triangles.
 fn add_first_term<'a>(built: &Measured<'a>, free_edges: &'a [u32], matrix: &mut SquareMatrix<'_>)
     requires { (IsHolding (triangles_of built.now.complex) (edges_of built.now.complex) built.now.complex.edge_to_tris)
         × Below free_edges.now built.now.complex.counts.edges × (built.now.complex.counts.edges ≤ 81920) × (matrix.old.n ≡ length free_edges.now) }
@@ -156,11 +177,11 @@ fn add_first_term<'a>(built: &Measured<'a>, free_edges: &'a [u32], matrix: &mut 
     ensures entries { matrix.new.entries.now ≡ scatter nan ahead (diagonal_events free_edges.now (diagonal_of (faces_of built.now.complex) built.now.sq_lengths.now free_edges.now))
         (scatter nan before (gather (first_at (faces_of built.now.complex) built.now.sq_lengths.now free_edges.now) (local_triangles (faces_of built.now.complex) free_edges.now)) matrix.old.entries.now) }
 {
-    let mut marks = [false; 81920];
-    let mut diagonal = [0.0; 81920];
-    mark_tris(&built.complex, free_edges, &mut marks);
-    add_tris(built, free_edges, &marks, &mut diagonal, matrix);
-    put_diagonal(free_edges, &diagonal, matrix);
+    let counts = built.complex.counts;
+    if counts.triangles <= 16384 && counts.edges <= 8192 {
+        return add_first_term_in::<16384, 8192>(built, free_edges, matrix);
+    }
+    add_first_term_in::<81920, 81920>(built, free_edges, matrix);
 }
 
 // ---- the whole

@@ -42,6 +42,15 @@ use Rattle.local_regge.specs.LocalCalls.{LocallyTabled}
 pub deficit-at : (F : FaceLists) (ls : List Float) (t : ℕ) → t < length F.triangles → (hinge_in (hinges F ls) t).deficit ≡ get_or (deficits_of (hinges F ls)) t nan
 deficit-at F ls t h = sym (get_or-map (λ h. h.deficit) (hinges F ls) t (hinge_of Spacelike nan) nan (omega (arith, length-map (hinges F ls) (λ h. h.deficit), length-hinges F ls (λ h. h.deficit))))
 
+-- ---- the complex
+
+-- of a built complex the triangles on each edge are listed
+pub on-triangles : (b : BuiltComplex) → IsHolding (triangles_of b.complex) (edges_of b.complex) b.complex.edge_to_tris
+on-triangles b =
+    let c = b.complex.counts in
+    let l = lists_of b.complex in
+    built-edge-to-tris c l (said (built-says c l) b.built_with.built)
+
 -- ---- checks
 
 -- what a call with free edges has where the checks of lengths and of free edges let it pass
@@ -67,7 +76,7 @@ local-passed b free n h k =
       few_edges = few-edges b;
       below = not-large-below c.edges free f.0 c.edges (omega arith);
       once = once-of free f.1;
-      on_triangles = built-edge-to-tris c l i;
+      on_triangles = on-triangles b;
       on_pents = built-edge-to-pents c l i;
     }
 
@@ -111,14 +120,15 @@ pub table_same : {o u : Outcome} {F : FaceLists} {ls : List Float} {free ts : Li
     → o ≡ u → LocallyTabled o F ls free ts ds ks r ts' ds' ks' → LocallyTabled u F ls free ts ds ks r ts' ds' ks'
 table_same {F = F} {ls = ls} {free = free} {ts = ts} {ds = ds} {ks = ks} {r = r} {ts' = ts'} {ds' = ds'} {ks' = ks'} e t = subst (λ (o : Outcome). LocallyTabled o F ls free ts ds ks r ts' ds' ks') e t
 
--- the gradient's entries that were worked out in scratch
-pub entries-written : (b : BuiltComplex) (free : List ℕ) (n : ℕ) → Passed b free n → (ls : List Float) (m : ℕ) → m ≡ 81920
+-- the gradient's entries that were worked out in scratch with room for m triangles and k edges
+pub entries-written : (b : BuiltComplex) (ls : List Float) → length ls ≡ b.complex.counts.edges → (free : List ℕ) → Below free b.complex.counts.edges → (m k : ℕ) → b.complex.counts.triangles ≤ m → b.complex.counts.edges ≤ k
     → (marks : List Bool) → marks ≡ marked (met (triangles_of b.complex) (edges_of b.complex) free) (replicate m false)
-    → (entries : List Float) → entries ≡ scatter nan ◌⊕◌ (gather (contributions (faces_of b.complex) ls (deficits_of (hinges (faces_of b.complex) ls))) (marked_below b.complex.counts.triangles marks)) (replicate m zero)
+    → (entries : List Float) → entries ≡ scatter nan ◌⊕◌ (gather (contributions (faces_of b.complex) ls (deficits_of (hinges (faces_of b.complex) ls))) (marked_below b.complex.counts.triangles marks)) (replicate k zero)
     → (old new : List Float) → new ≡ over (map (λ e. get_or entries e nan) free) old → new ≡ over (local_gradient (faces_of b.complex) ls free) old
-entries-written b free n p ls m large marks k entries e old new w =
+entries-written b ls n free below m k tris edges marks at entries e old new w =
     let F = faces_of b.complex in
+    let ok = measured b (length ls) n in
     let E : length (edges_of b.complex) ≡ b.complex.counts.edges = length-rows 2 b.complex.counts.edges b.complex.edges.now in
     w
-    ∙ ap (λ (xs : List Float). over (map (λ e. get_or xs e nan) free) old) (e ∙ ap (λ (ts : List ℕ). scatter nan ◌⊕◌ (gather (contributions F ls (deficits_of (hinges F ls))) ts) (replicate m zero)) (marks_local b.complex free m (omega (arith, p.measured.few)) marks k))
-    ∙ ap (λ (xs : List Float). over xs old) (entries_local F p.measured.edges_found (λ r i. (p.measured.simplices.triangle r i).1) ls free m (λ i h. omega (arith, p.below i h)) (omega (arith, p.few_edges)))
+    ∙ ap (λ (xs : List Float). over (map (λ e. get_or xs e nan) free) old) (e ∙ ap (λ (ts : List ℕ). scatter nan ◌⊕◌ (gather (contributions F ls (deficits_of (hinges F ls))) ts) (replicate k zero)) (marks_local b.complex free m tris marks at))
+    ∙ ap (λ (xs : List Float). over xs old) (entries_local F ok.edges_found (λ r i. (ok.simplices.triangle r i).1) ls free k (λ i h. omega (arith, below i h)) (omega arith))

@@ -48,6 +48,51 @@ fn write_hinges(
     }
 }
 
+// Writes the triangles on free edges and their hinges, where there is room for them, by marks of T triangles. Not inlined, so that marks
+// of one size alone lie on the stack, and none while a caller checks the complex.
+#[inline(never)]
+fn tabulate_in<const T: usize>(
+    built: &BuiltComplex<'_>,
+    sq_lengths: &[f64],
+    free_edges: &[u32],
+    tris: &mut [u32],
+    deficits: &mut [f64],
+    kinds: &mut [u8],
+) -> Result<usize, Refusal>
+    requires { (length sq_lengths.now ≡ built.now.complex.counts.edges) × Below free_edges.now built.now.complex.counts.edges
+        × (built.now.complex.counts.triangles ≤ T) × (T ≤ 81920) }
+    ensures { LocallyTabled (room_check_of (short_local (faces_of built.now.complex) free_edges.now (length tris.old) (length deficits.old) (length kinds.old)))
+        (faces_of built.now.complex) sq_lengths.now free_edges.now tris.old deficits.old kinds.old result tris.new deficits.new kinds.new }
+{
+    let mut marks = [false; T];
+    mark_tris(&built.complex, free_edges, &mut marks);
+    let own = &marks[..built.complex.counts.triangles];
+    let count = count_marked(own);
+    check_room(lacks_room(count, tris.len(), deficits.len(), kinds.len()))?;
+    list_marked(own, tris);
+    write_hinges(built, sq_lengths, &tris[..count], deficits, kinds);
+    Ok(count)
+}
+
+// The same by as many marks as the complex asks for: to clear all that there may be takes as long as several hinges.
+fn tabulate(
+    built: &BuiltComplex<'_>,
+    sq_lengths: &[f64],
+    free_edges: &[u32],
+    tris: &mut [u32],
+    deficits: &mut [f64],
+    kinds: &mut [u8],
+) -> Result<usize, Refusal>
+    requires { (length sq_lengths.now ≡ built.now.complex.counts.edges) × Below free_edges.now built.now.complex.counts.edges }
+    ensures { LocallyTabled (room_check_of (short_local (faces_of built.now.complex) free_edges.now (length tris.old) (length deficits.old) (length kinds.old)))
+        (faces_of built.now.complex) sq_lengths.now free_edges.now tris.old deficits.old kinds.old result tris.new deficits.new kinds.new }
+{
+    if built.complex.counts.triangles <= 16384 {
+        return tabulate_in::<16384>(built, sq_lengths, free_edges, tris, deficits, kinds);
+    }
+    tabulate_in::<81920>(built, sq_lengths, free_edges, tris, deficits, kinds)
+}
+
 // `local_deficit_angles` of a built complex. A refused call leaves the three lists as they were; otherwise the places that are not
 // written are kept.
 pub fn local_deficit_angles_built(
@@ -64,14 +109,7 @@ pub fn local_deficit_angles_built(
     let counts = built.complex.counts;
     check_lengths(counts, sq_lengths.len())?;
     check_free(counts, free_edges)?;
-    let mut marks = [false; 81920];
-    mark_tris(&built.complex, free_edges, &mut marks);
-    let own = &marks[..counts.triangles];
-    let count = count_marked(own);
-    check_room(lacks_room(count, tris.len(), deficits.len(), kinds.len()))?;
-    list_marked(own, tris);
-    write_hinges(built, sq_lengths, &tris[..count], deficits, kinds);
-    Ok(count)
+    tabulate(built, sq_lengths, free_edges, tris, deficits, kinds)
 }
 
 // `local_deficit_angles`: the triangles on free edges, ascending, with the deficit of each and its kind as a byte, from all

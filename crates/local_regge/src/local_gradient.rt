@@ -10,6 +10,7 @@ ghost use Rattle.complex.specs.Lent.{lists_of};
 ghost use Rattle.marks.specs.Marks.{marked_below};
 ghost use Rattle.hinges.specs.Hinges.{faces_of, hinges, deficits_of};
 ghost use Rattle.hinges.specs.Action.{contributions};
+ghost use Rattle.hinges.specs.Local.{local_gradient};
 ghost use Rattle.calls.specs.Calls.{lengths_check_of, free_check_of, built_check_of, room_check_of};
 ghost use Rattle.local_regge.specs.LocalCalls.{LocallyGraded};
 
@@ -17,7 +18,7 @@ use calls::{BuiltComplex, check_complex, check_free, check_lengths, check_room};
 use complex::Complex;
 use hinges::{add_contributions, hinge_at, tri_sq_lengths};
 use incidence::{TriangleNumber, tri_edge_indices};
-use marks::mark_tris;
+use marks::{mark_tris, next_marked};
 use refusals::Refusal;
 
 // What the marked triangles add at their edges, in their order.
@@ -31,14 +32,15 @@ fn add_marked_contributions(
         × (built.now.complex.counts.triangles ≤ length marks.now) × (built.now.complex.counts.edges ≤ length entries.old) }
     ensures { entries.new ≡ scatter nan ◌⊕◌ (gather (contributions (faces_of built.now.complex) sq_lengths.now (deficits_of (hinges (faces_of built.now.complex) sq_lengths.now))) (marked_below built.now.complex.counts.triangles marks.now)) entries.old }
 {
-    for (t, mark) in marks[..built.complex.counts.triangles].iter().enumerate() {
-        if *mark {
-            let tri = TriangleNumber(t as u32);
-            let own = tri_edge_indices(&built.complex, &built.incidence, tri);
-            let s = tri_sq_lengths(own, sq_lengths);
-            let hinge = hinge_at(&built.complex, &built.incidence, sq_lengths, tri);
-            add_contributions(own, s, hinge.deficit, entries);
-        }
+    let front = &marks[..built.complex.counts.triangles];
+    let mut t = next_marked(front, 0);
+    while t < front.len() {
+        let tri = TriangleNumber(t as u32);
+        let own = tri_edge_indices(&built.complex, &built.incidence, tri);
+        let s = tri_sq_lengths(own, sq_lengths);
+        let hinge = hinge_at(&built.complex, &built.incidence, sq_lengths, tri);
+        add_contributions(own, s, hinge.deficit, entries);
+        t = next_marked(front, t + 1);
     }
 }
 
@@ -51,6 +53,45 @@ fn write_entries(free_edges: &[u32], entries: &[f64], grad: &mut [f64])
     for (k, e) in free_edges.iter().enumerate() {
         grad[k] = entries[*e as usize];
     }
+}
+
+// Writes the entries of free edges, worked out in marks of T triangles and sums of E edges. Not inlined, so that marks and sums of one
+// size alone lie on the stack, and none while a caller checks the complex.
+#[inline(never)]
+fn write_gradient_in<const T: usize, const E: usize>(
+    built: &BuiltComplex<'_>,
+    sq_lengths: &[f64],
+    free_edges: &[u32],
+    grad: &mut [f64],
+)
+    requires { (length sq_lengths.now ≡ built.now.complex.counts.edges) × Below free_edges.now built.now.complex.counts.edges
+        × (built.now.complex.counts.triangles ≤ T) × (T ≤ 81920) × (built.now.complex.counts.edges ≤ E) × (E ≤ 81920) × (length free_edges.now ≤ length grad.old) }
+    ensures { grad.new ≡ over (local_gradient (faces_of built.now.complex) sq_lengths.now free_edges.now) grad.old }
+{
+    let mut marks = [false; T];
+    mark_tris(&built.complex, free_edges, &mut marks);
+    let mut entries = [0.0; E];
+    add_marked_contributions(built, sq_lengths, &marks, &mut entries);
+    write_entries(free_edges, &entries, grad);
+}
+
+// Writes the entries of free edges. Most complexes have few triangles and edges: marks and sums for as many as there may be take longer
+// to be cleared than the triangles on an edge to be summed.
+fn write_gradient(
+    built: &BuiltComplex<'_>,
+    sq_lengths: &[f64],
+    free_edges: &[u32],
+    grad: &mut [f64],
+)
+    requires { (length sq_lengths.now ≡ built.now.complex.counts.edges) × Below free_edges.now built.now.complex.counts.edges
+        × (length free_edges.now ≤ length grad.old) }
+    ensures { grad.new ≡ over (local_gradient (faces_of built.now.complex) sq_lengths.now free_edges.now) grad.old }
+{
+    let counts = built.complex.counts;
+    if counts.triangles <= 16384 && counts.edges <= 8192 {
+        return write_gradient_in::<16384, 8192>(built, sq_lengths, free_edges, grad);
+    }
+    write_gradient_in::<81920, 81920>(built, sq_lengths, free_edges, grad);
 }
 
 // `local_lorentzian_regge_action_grad` of a built complex. A refused call leaves the list as it was; otherwise the places that are
@@ -68,11 +109,7 @@ pub fn local_lorentzian_regge_action_grad_built(
     check_lengths(counts, sq_lengths.len())?;
     check_free(counts, free_edges)?;
     check_room(grad.len() < free_edges.len())?;
-    let mut marks = [false; 81920];
-    mark_tris(&built.complex, free_edges, &mut marks);
-    let mut entries = [0.0; 81920];
-    add_marked_contributions(built, sq_lengths, &marks, &mut entries);
-    write_entries(free_edges, &entries, grad);
+    write_gradient(built, sq_lengths, free_edges, grad);
     Ok(())
 }
 

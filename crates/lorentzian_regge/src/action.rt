@@ -28,6 +28,8 @@ fn sum_up(built: &BuiltComplex<'_>, sq_lengths: &[f64], deficits: &[f64]) -> f64
 }
 
 // `lorentzian_regge_action` of a built complex. Kinds as bytes, and unread: `write_table` fills the lists that C lends.
+// Not inlined, so that its lists do not lie on the stack while a caller checks the complex.
+#[inline(never)]
 pub fn lorentzian_regge_action_built(
     built: &BuiltComplex<'_>,
     sq_lengths: &[f64],

@@ -37,6 +37,8 @@ fn add_all_contributions(
 
 // `lorentzian_regge_action_grad` of a built complex. A refused call leaves the list as it was; otherwise the places that are not
 // written are kept. Kinds as bytes, and unread: `write_table` fills the lists that C lends.
+// Not inlined, so that its lists do not lie on the stack while a caller checks the complex.
+#[inline(never)]
 pub fn lorentzian_regge_action_grad_built(
     built: &BuiltComplex<'_>,
     sq_lengths: &[f64],

@@ -1,6 +1,7 @@
 -- Marks: which numbers a list of marks has, and loops over them. Assumes nothing.
-use Rattle.std.specs.List.{count_by}
-use Rattle.std.proofs.lemmas.List.Sums.{count_by_more_yes, count_by_more_no}
+use Rattle.std.specs.List.{list_any}
+use Rattle.std.proofs.lemmas.List.{get_or-drop}
+use Rattle.std.proofs.lemmas.List.Folds.{list_any_more}
 use Prim.Native.Nat.{ℕ, zero, suc, ◌+◌, ◌-◌, ◌≤◌, ◌<◌}
 use mathlib.Core.Bool.{Bool, true, false, true≢false, cond, ◌||◌}
 use mathlib.Core.List.Memᴰ
@@ -10,8 +11,8 @@ use mathlib.Core.Path.{◌≡◌, refl, sym, ap, ◌∙◌, subst}
 use native.Mathlib.Nat.{add-zero}
 use native.Mathlib.Numerals.{add-one}
 use native.Mathlib.Omega.{arith}
-use lib.ListN.{length, get_or, set, take, replicate, drop, length-set, length-replicate, get_or-replicate, length-append, get_or-append}
-use lib.Seq.{get_or-set_same, get_or-set_other, get_or-take, length-take-le, lt-length-set, take-suc}
+use lib.ListN.{length, get_or, set, take, replicate, drop, length-drop, length-set, length-replicate, get_or-replicate, length-append, get_or-append}
+use lib.Seq.{drop-cons, drop-length, get_or-set_same, get_or-set_other, get_or-take, length-take-le, lt-length-set, take-suc}
 use Rattle.lists.specs.Lists.{keep, gather, upto, among, Once}
 use Rattle.lists.specs.Rows.{over}
 use Rattle.lists.specs.Groups.{Below}
@@ -22,9 +23,9 @@ use Rattle.lists.proofs.Loops.{scatter-append}
 use Rattle.complex.specs.Complex.{holding}
 use Rattle.complex.specs.Builder.{repeats}
 use Rattle.complex.proofs.Lying.{mem-holding}
-use Rattle.complex.proofs.Offences.{once-of}
+use Rattle.complex.proofs.Offences.{or-false, once-of}
 use Rattle.complex.proofs.Laws.{no-repeat}
-use Rattle.marks.specs.Marks.{met, listed, marked, marked_below}
+use Rattle.marks.specs.Marks.{met, listed, marked, marked_below, first_marked, next_marked}
 
 -- ---- scratch
 
@@ -154,35 +155,99 @@ marked-most marks (suc n) = go (get_or marks n false) refl (marked-most marks n)
     go true e r = omega (arith, ap (λ (k : ℕ). length (marked_below k marks)) (sym (add-one n)), ap length (step marks n true e), length-append (marked_below n marks) (n ∷ []))
     go false e r = omega (arith, ap (λ (k : ℕ). length (marked_below k marks)) (sym (add-one n)), ap length (marked-past marks n e))
 
--- there are as many as there are marks
-pub marked-counted : (marks : List Bool) (n : ℕ) → n ≤ length marks → length (marked_below n marks) ≡ count_by (λ m. m) (take n marks)
-marked-counted marks zero h = rw (none_below marks) refl
-marked-counted marks (suc n) h = go (get_or marks n false) refl (marked-counted marks n (omega arith))
-  where
-    below : n < length marks
-    below = omega arith
+-- ---- the next mark
 
-    next : length (marked_below (n + 1) marks) ≡ count_by (λ m. m) (take (n + 1) marks) → length (marked_below (suc n) marks) ≡ count_by (λ m. m) (take (suc n) marks)
-    next e = rw add-one at e
+-- a walk over marks stands at one, or behind the last
+pub record AtMark (marks : List Bool) (t : ℕ) : Type 0 where
+  pub within : t ≤ length marks
+  pub mark : t < length marks → get_or marks t false ≡ true
 
-    go : (b : Bool) → get_or marks n false ≡ b → length (marked_below n marks) ≡ count_by (λ m. m) (take n marks) → length (marked_below (suc n) marks) ≡ count_by (λ m. m) (take (suc n) marks)
-    go true e r = next (omega (arith, r, ap length (marked-here marks n e), length-append (marked_below n marks) (n ∷ []), count_by_more_yes (λ m. m) marks n false below e))
-    go false e r = next (omega (arith, r, ap length (marked-past marks n e), count_by_more_no (λ m. m) marks n false below e))
+module _ (marks : List Bool) where
+  -- from a mark on it is the next one
+  pub next-here : (t : ℕ) → t < length marks → get_or marks t false ≡ true → next_marked t marks ≡ t
+  unfolding next_marked first_marked
+  next-here t h e =
+      ap (λ (l : List Bool). t + first_marked l) (drop-cons marks t false h)
+      ∙ ap (λ (b : Bool). t + cond b 0 (first_marked (drop (suc t) marks) + 1)) e
+      ∙ add-zero t
+
+  -- a number that is not marked is passed over
+  pub next-past : (t : ℕ) → t < length marks → get_or marks t false ≡ false → next_marked t marks ≡ next_marked (t + 1) marks
+  unfolding next_marked first_marked
+  next-past t h e =
+      let one : t + (first_marked (drop (t + 1) marks) + 1) ≡ t + 1 + first_marked (drop (t + 1) marks) = omega arith in
+      ap (λ (l : List Bool). t + first_marked l) (drop-cons marks t false h)
+      ∙ ap (λ (b : Bool). t + cond b 0 (first_marked (drop (suc t) marks) + 1)) e
+      ∙ ap (λ (n : ℕ). t + (first_marked (drop n marks) + 1)) (sym (add-one t))
+      ∙ one
+
+  -- so are n of them
+  pub next-far : (t n : ℕ) → t + n ≤ length marks → list_any (λ mark. mark) (take n (drop t marks)) ≡ false → next_marked t marks ≡ next_marked (t + n) marks
+  next-far t zero h e = ap (λ (k : ℕ). next_marked k marks) (sym (add-zero t))
+  next-far t (suc n) h e =
+      let more = list_any_more (λ mark. mark) (drop t marks) n false (omega (arith, length-drop t marks)) in
+      let both = or-false (list_any (λ mark. mark) (take n (drop t marks))) (get_or (drop t marks) n false) (sym more ∙ ap (λ (k : ℕ). list_any (λ mark. mark) (take k (drop t marks))) (add-one n) ∙ e) in
+      let turn : t + n + 1 ≡ t + suc n = omega arith in
+      next-far t n (omega arith) both.0
+      ∙ next-past (t + n) (omega arith) (sym (get_or-drop t marks n false) ∙ both.1)
+      ∙ ap (λ (k : ℕ). next_marked k marks) turn
+
+  -- behind the last mark there is none
+  pub next-end : (t : ℕ) → t ≡ length marks → next_marked t marks ≡ t
+  unfolding next_marked first_marked
+  next-end t e = ap (λ (l : List Bool). t + first_marked l) (ap (λ (n : ℕ). drop n marks) e ∙ drop-length marks) ∙ add-zero t
+
+  -- none is passed over
+  next-law : (d t : ℕ) → length marks ≡ t + d → AtMark marks (next_marked t marks) × (marked_below (next_marked t marks) marks ≡ marked_below t marks)
+  next-law zero t e =
+      subst (λ (k : ℕ). AtMark marks k × (marked_below k marks ≡ marked_below t marks)) (sym (next-end t (omega arith)))
+      (record { within = omega arith; mark = λ h. absurd (omega arith) }, refl)
+  next-law (suc d) t e = go (get_or marks t false) refl (next-law d (t + 1) (omega arith))
+    where
+      go : (b : Bool) → get_or marks t false ≡ b → AtMark marks (next_marked (t + 1) marks) × (marked_below (next_marked (t + 1) marks) marks ≡ marked_below (t + 1) marks)
+          → AtMark marks (next_marked t marks) × (marked_below (next_marked t marks) marks ≡ marked_below t marks)
+      go true m r = subst (λ (k : ℕ). AtMark marks k × (marked_below k marks ≡ marked_below t marks)) (sym (next-here t (omega arith) m)) (record { within = omega arith; mark = λ h. m }, refl)
+      go false m r = subst (λ (k : ℕ). AtMark marks k × (marked_below k marks ≡ marked_below t marks)) (sym (next-past t (omega arith) m)) (r.0, r.1 ∙ marked-past marks t m)
+
+  module _ (from t : ℕ) (h : from ≤ length marks) (e : t ≡ next_marked from marks) where
+    -- it is marked, where it is below the length
+    pub next-stands : AtMark marks t
+    next-stands = subst (AtMark marks) (sym e) (next-law (length marks - from) from (omega arith)).0
+
+    -- and nothing is marked between
+    pub next-same : marked_below t marks ≡ marked_below from marks
+    next-same = ap (λ (k : ℕ). marked_below k marks) e ∙ (next-law (length marks - from) from (omega arith)).1
+
+    -- a walk goes on
+    pub next-on : from ≤ t
+    unfolding next_marked
+    next-on = omega (arith, e)
+
+  -- before the first mark there is none
+  pub next-first : (t : ℕ) → t ≡ next_marked 0 marks → marked_below t marks ≡ []
+  next-first t e = next-same 0 t (omega arith) e ∙ none_below marks
+
+  module _ (t next : ℕ) (at : AtMark marks t) (h : t < length marks) (e : next ≡ next_marked (t + 1) marks) where
+    -- one number more is below the next mark
+    pub next-one : marked_below next marks ≡ marked_below t marks ++ t ∷ []
+    next-one = next-same (t + 1) next (omega arith) e ∙ marked-here marks t (at.mark h)
+
+-- a walk over the first n marks that stands behind the last has met what is marked below n
+pub walk-ended : (marks : List Bool) (n t : ℕ) → n ≤ length marks → AtMark (take n marks) t → length (take n marks) ≤ t → marked_below t (take n marks) ≡ marked_below n marks
+walk-ended marks n t h at e =
+    let end : t ≡ length (take n marks) = omega (arith, at.within) in
+    ap (λ (k : ℕ). marked_below k (take n marks)) end ∙ marked-front marks n h
 
 -- ---- loops over marked numbers
 
-module _ {S X : Type 0} (d : S) (f : S → X → S) (event : ℕ → List (ℕ × X)) (marks : List Bool) (t : ℕ) (old now : List S) (was : now ≡ scatter d f (gather event (marked_below t marks)) old) where
-  -- the events of a marked number
-  pub scatter-here : get_or marks t false ≡ true → (es : List (ℕ × X)) → es ≡ event t → (new : List S) → new ≡ scatter d f es now → new ≡ scatter d f (gather event (marked_below (t + 1) marks)) old
-  scatter-here m es e new is =
+module _ {S X : Type 0} (d : S) (f : S → X → S) (event : ℕ → List (ℕ × X)) (marks : List Bool) (t : ℕ) (at : AtMark marks t) (h : t < length marks) (old now : List S) (was : now ≡ scatter d f (gather event (marked_below t marks)) old) where
+  -- the events of a marked number, as a walk leaves them where it goes on to the next one
+  pub scatter-marked : (es : List (ℕ × X)) → es ≡ event t → (new : List S) → new ≡ scatter d f es now → (next : ℕ) → next ≡ next_marked (t + 1) marks → new ≡ scatter d f (gather event (marked_below next marks)) old
+  scatter-marked es e new is next n =
       is
       ∙ rw (e, was) (sym (scatter-append d f (gather event (marked_below t marks)) (event t) old))
       ∙ ap (λ (l : List (ℕ × X)). scatter d f l old) (sym (gather-snoc event (marked_below t marks) t))
-      ∙ ap (λ (l : List ℕ). scatter d f (gather event l) old) (sym (marked-here marks t m))
-
-  -- and of another
-  pub scatter-past : get_or marks t false ≡ false → now ≡ scatter d f (gather event (marked_below (t + 1) marks)) old
-  scatter-past m = was ∙ ap (λ (l : List ℕ). scatter d f (gather event l) old) (sym (marked-past marks t m))
+      ∙ ap (λ (l : List ℕ). scatter d f (gather event l) old) (sym (next-one marks t next at h n))
 
 -- ---- numbers that stand twice
 

@@ -1,6 +1,6 @@
 -- Numbers listed by their marks: the faces in which edges lie, those of the first n numbers that are among some, and marks of them. Definitions only.
-use Rattle.std.specs.Prelude.{ℕ, ◌≤◌, Bool, true, false, length, get_or, set}
-use mathlib.Core.List.{List, [], foldl}
+use Rattle.std.specs.Prelude.{ℕ, ◌+◌, ◌≤◌, Bool, true, false, cond, length, get_or, set, drop}
+use mathlib.Core.List.{List, [], ◌∷◌, foldl}
 use Rattle.lists.specs.Lists.{keep, gather, upto, among}
 use Rattle.lists.specs.Groups.{Below}
 use Rattle.complex.specs.declared.AdjacencyList.{AdjacencyList}
@@ -28,3 +28,12 @@ marked numbers marks = foldl (λ ms t. set ms t true) marks numbers
 -- the marked numbers below n, ascending
 unfoldable pub marked_below : ℕ → List Bool → List ℕ
 marked_below n marks = keep (λ t. get_or marks t false) (upto n)
+
+-- the number of the first mark, or how many marks there are where none is set
+unfoldable pub first_marked : List Bool → ℕ
+first_marked [] = 0
+first_marked (m ∷ ms) = cond m 0 (first_marked ms + 1)
+
+-- the same of those from a number on
+unfoldable pub next_marked : ℕ → List Bool → ℕ
+next_marked from marks = from + first_marked (drop from marks)

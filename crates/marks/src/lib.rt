@@ -6,9 +6,10 @@ ghost use Rattle.lists.specs.Rows.{over};
 ghost use Rattle.lists.specs.Groups.{Below};
 ghost use Rattle.complex.specs.Builder.{repeats};
 ghost use Rattle.complex.specs.Lent.{pents_of, edges_of, triangles_of, IsHolding};
-ghost use Rattle.marks.specs.Marks.{met, marked, marked_below, IsMeeting};
+ghost use Rattle.std.specs.List.{list_any};
+ghost use Rattle.marks.specs.Marks.{met, marked, marked_below, next_marked, IsMeeting};
 
-use complex::{AdjacencyList, Complex};
+use complex::{AdjacencyList, Complex, repeats};
 use incidence::row;
 
 // ---- marks are set
@@ -56,11 +57,46 @@ pub fn mark_pents<'a>(complex: &Complex<'a>, free_edges: &'a [u32], marks: &mut 
 
 // ---- marks are read
 
+// Whether some number is marked. All marks are read: with an early exit LLVM makes no vector code of the loop.
+#[inline]
+fn any_marked(marks: &[bool]) -> bool
+    ensures { result ≡ list_any (λ mark. mark) marks.now }
+{
+    let mut any = false;
+    for mark in marks {
+        any = any | *mark;
+    }
+    any
+}
+
+// The first marked number from `from` on, or how many marks there are where none is set. As a rule few are set: whole chunks of 64 are
+// passed over first.
+#[inline]
+pub fn next_marked(marks: &[bool], from: usize) -> usize
+    requires { from ≤ length marks.now }
+    ensures { result ≡ next_marked from marks.now }
+{
+    let mut t = from;
+    while 64 <= marks.len() - t && !any_marked(&marks[t..t + 64]) {
+        t += 64;
+    }
+    while t < marks.len() && !marks[t] {
+        t += 1;
+    }
+    t
+}
+
 // How many numbers are marked.
 pub fn count_marked(marks: &[bool]) -> usize
     ensures { result ≡ length (marked_below (length marks.now) marks.now) }
 {
-    marks.iter().filter(|mark| **mark).count()
+    let mut n = 0;
+    let mut t = next_marked(marks, 0);
+    while t < marks.len() {
+        n += 1;
+        t = next_marked(marks, t + 1);
+    }
+    n
 }
 
 // Writes the marked numbers, ascending.
@@ -71,18 +107,20 @@ pub fn list_marked(marks: &[bool], list: &mut [u32])
 {
     // By a count, and no zip with `iter_mut`: of what is written through that a proof knows no element.
     let mut count = 0;
-    for (t, mark) in marks.iter().enumerate() {
-        if *mark {
-            list[count] = t as u32;
-            count += 1;
-        }
+    let mut t = next_marked(marks, 0);
+    while t < marks.len() {
+        list[count] = t as u32;
+        count += 1;
+        t = next_marked(marks, t + 1);
     }
 }
 
-// Whether some number stands twice, all of them below 81,920.
-// By marks, since there may be as many. `repeats` of `complex` compares the five of a pentachoron, which may be of any size.
+// ---- numbers that stand twice
+
+// Whether some number stands twice, by marks: there may be as many numbers as marks. Not inlined, so that no marks are made for few.
+#[inline(never)]
 #[tactic(auto, unfolding(crate::specs::Marks::marked, complex::specs::Builder::repeats))]
-pub fn stands_twice(numbers: &[u32]) -> bool
+fn stands_twice_by_marks(numbers: &[u32]) -> bool
     requires { Below numbers.now 81920 }
     ensures { result ≡ repeats numbers.now }
 {
@@ -95,4 +133,15 @@ pub fn stands_twice(numbers: &[u32]) -> bool
         *mark = true;
     }
     false
+}
+
+// Whether some number stands twice, all of them below 81,920. Up to 16 are compared by pairs, which is sooner done than marks are made.
+pub fn stands_twice(numbers: &[u32]) -> bool
+    requires { Below numbers.now 81920 }
+    ensures { result ≡ repeats numbers.now }
+{
+    if numbers.len() <= 16 {
+        return repeats(numbers);
+    }
+    stands_twice_by_marks(numbers)
 }

@@ -131,6 +131,12 @@ module _ (c : Counts) (n e : ℕ) (others : Outcome) (lengths : lengths_check_of
   pub others-third : edge_check_of c e Done ≡ Done → lengths_check_of c n (edge_check_of c e others) ≡ others
   others-third edge = lengths-decided c n (edge_check_of c e others) lengths ∙ edge-decided c e others edge
 
+-- of a built complex the pentachorons on each edge are listed
+pub on-pents : (b : BuiltComplex) → IsHolding (pents_of b.complex) (edges_of b.complex) b.complex.edge_to_pents
+on-pents b =
+    let x = b.complex in
+    built-edge-to-pents x.counts (lists_of x) (said (built-says x.counts (lists_of x)) b.built_with.built)
+
 -- what a retouch of a built complex with n lengths has where the checks of lengths and edge let it pass
 pub record Passed (b : BuiltComplex) (n e : ℕ) : Type 0 where
   pub measured : IsMeasured b.complex b.incidence n
@@ -145,7 +151,7 @@ retouch-passed b n e lengths edge =
     let counted = (lengths-passed x.counts n Done lengths).0 in
     record {
       measured = measured b n counted;
-      on_pents = built-edge-to-pents x.counts (lists_of x) (said (built-says x.counts (lists_of x)) b.built_with.built);
+      on_pents = on-pents b;
       counted = counted;
       inside = (edge-passed x.counts e Done edge).0;
     }

@@ -6,11 +6,13 @@
 mod records;
 mod touched;
 
-ghost use Rattle.std.specs.Prelude.{length};
+ghost use Rattle.std.specs.Prelude.{◌≡◌, ◌≤◌, ◌<◌, length, set};
+ghost use Rattle.lists.specs.Writes.{writes};
 ghost use Rattle.complex.specs.Lent.{lists_of};
 ghost use Rattle.hinges.specs.Hinges.{faces_of};
 ghost use Rattle.calls.specs.Calls.{built_check_of, lengths_check_of, room_check_of, short_table};
-ghost use Rattle.retouch.specs.Retouch.{edge_check_of, Retouched};
+ghost use Rattle.lorentzian.specs.Dihedral.{kind_number};
+ghost use Rattle.retouch.specs.Retouch.{edge_check_of, anew, touched, Retouched};
 
 use calls::{BuiltComplex, check_complex, check_lengths, check_table};
 use complex::Complex;
@@ -18,6 +20,50 @@ use incidence::EdgeNumber;
 use records::write_records;
 use refusals::Refusal;
 pub use touched::{check_edge, list_touched};
+
+// Stores a new squared length at its edge and works out anew each triangle of each pentachoron that contains the edge, listed with room
+// for T triangles. Not inlined, so that room of one size alone lies on the stack, and none while a caller checks the complex.
+#[inline(never)]
+fn rework_in<const T: usize>(
+    built: &BuiltComplex<'_>,
+    sq_lengths: &mut [f64],
+    edge: EdgeNumber,
+    sq_length: f64,
+    deficits: &mut [f64],
+    kinds: &mut [u8],
+)
+    requires { (length sq_lengths.old ≡ built.now.complex.counts.edges) × (edge.0 < built.now.complex.counts.edges)
+        × (built.now.complex.counts.triangles ≤ T) × (T ≤ 81920) × (built.now.complex.counts.triangles ≤ length deficits.old) × (built.now.complex.counts.triangles ≤ length kinds.old) }
+    ensures { (sq_lengths.new ≡ set sq_lengths.old edge.0 sq_length)
+        × (deficits.new ≡ writes (λ t. (anew (faces_of built.now.complex) sq_lengths.old edge.0 sq_length t).deficit) (touched (faces_of built.now.complex) edge.0) deficits.old)
+        × (kinds.new ≡ writes (λ t. kind_number (anew (faces_of built.now.complex) sq_lengths.old edge.0 sq_length t).kind) (touched (faces_of built.now.complex) edge.0) kinds.old) }
+{
+    let mut tris = [0u32; T];
+    let count = list_touched(&built.complex, &built.incidence, edge, &mut tris);
+    sq_lengths[edge.0 as usize] = sq_length;
+    write_records(built, sq_lengths, &tris[..count], deficits, kinds);
+}
+
+// The same with as much room as the complex asks for: to clear all that there may be takes longer than several triangles.
+fn rework(
+    built: &BuiltComplex<'_>,
+    sq_lengths: &mut [f64],
+    edge: EdgeNumber,
+    sq_length: f64,
+    deficits: &mut [f64],
+    kinds: &mut [u8],
+)
+    requires { (length sq_lengths.old ≡ built.now.complex.counts.edges) × (edge.0 < built.now.complex.counts.edges)
+        × (built.now.complex.counts.triangles ≤ length deficits.old) × (built.now.complex.counts.triangles ≤ length kinds.old) }
+    ensures { (sq_lengths.new ≡ set sq_lengths.old edge.0 sq_length)
+        × (deficits.new ≡ writes (λ t. (anew (faces_of built.now.complex) sq_lengths.old edge.0 sq_length t).deficit) (touched (faces_of built.now.complex) edge.0) deficits.old)
+        × (kinds.new ≡ writes (λ t. kind_number (anew (faces_of built.now.complex) sq_lengths.old edge.0 sq_length t).kind) (touched (faces_of built.now.complex) edge.0) kinds.old) }
+{
+    if built.complex.counts.triangles <= 16384 {
+        return rework_in::<16384>(built, sq_lengths, edge, sq_length, deficits, kinds);
+    }
+    rework_in::<81920>(built, sq_lengths, edge, sq_length, deficits, kinds);
+}
 
 // The retouch of a built complex. A refused call leaves the three lists as they were.
 pub fn retouch_built(
@@ -35,10 +81,7 @@ pub fn retouch_built(
     check_lengths(counts, sq_lengths.len())?;
     check_edge(counts, edge)?;
     check_table(counts, deficits.len(), kinds.len())?;
-    let mut tris = [0u32; 81920];
-    let count = list_touched(&built.complex, &built.incidence, edge, &mut tris);
-    sq_lengths[edge.0 as usize] = sq_length;
-    write_records(built, sq_lengths, &tris[..count], deficits, kinds);
+    rework(built, sq_lengths, edge, sq_length, deficits, kinds);
     Ok(())
 }
 

@@ -45,8 +45,31 @@ fn mark_touched<'a>(
     }
 }
 
-// Writes the numbers of those triangles, each once, ascending; answers how many there are. A count and not the lent front: a list that
-// is lent on has no value after the call, and nothing would be promised of the places behind the front.
+// Writes the numbers of those triangles, each once, ascending, by marks of T triangles; answers how many there are. A count and not the
+// lent front: a list that is lent on has no value after the call, and nothing would be promised of the places behind the front. Not
+// inlined, so that marks of one size alone lie on the stack.
+#[inline(never)]
+fn list_touched_in<'a, const T: usize>(
+    complex: &Complex<'a>,
+    incidence: &Incidence<'a>,
+    edge: EdgeNumber,
+    tris: &mut [u32],
+) -> usize
+    requires { (IsHolding (pents_of complex.now) (edges_of complex.now) complex.now.edge_to_pents)
+        × HasTriangleNumbers complex.now incidence.now
+        × Found (triangles_of complex.now) 3 (pents_of complex.now)
+        × (edge.0 < complex.now.counts.edges) × (complex.now.counts.triangles ≤ T) × (T ≤ 81920) × (complex.now.counts.triangles ≤ length tris.old) }
+    ensures { (result ≡ length (touched (faces_of complex.now) edge.0))
+        × (tris.new ≡ over (touched (faces_of complex.now) edge.0) tris.old) }
+{
+    let mut marks = [false; T];
+    mark_touched(complex, incidence, edge, &mut marks);
+    let own = &marks[..complex.counts.triangles];
+    list_marked(own, tris);
+    count_marked(own)
+}
+
+// The same by as many marks as the complex asks for: to clear all that there may be takes longer than to mark a few.
 pub fn list_touched<'a>(
     complex: &Complex<'a>,
     incidence: &Incidence<'a>,
@@ -60,9 +83,8 @@ pub fn list_touched<'a>(
     ensures { (result ≡ length (touched (faces_of complex.now) edge.0))
         × (tris.new ≡ over (touched (faces_of complex.now) edge.0) tris.old) }
 {
-    let mut marks = [false; 81920];
-    mark_touched(complex, incidence, edge, &mut marks);
-    let own = &marks[..complex.counts.triangles];
-    list_marked(own, tris);
-    count_marked(own)
+    if complex.counts.triangles <= 16384 {
+        return list_touched_in::<16384>(complex, incidence, edge, tris);
+    }
+    list_touched_in::<81920>(complex, incidence, edge, tris)
 }

@@ -11,7 +11,7 @@ use Rattle.complex.proofs.checks.repeats.Goals as goal
 
 pub returns : goal.returns
 returns c =
-    let p = c.args.pent.now in
+    let p = c.args.numbers.now in
     let some : c.any.result ≡ true → (i : ℕ) × (i < length p) × (among (get_or p i 0) (take (length p - (i + 1)) (drop (i + 1) p)) ≡ true) = search rules in
     let none : c.any.result ≡ false → (i : ℕ) → i < length p → among (get_or p i 0) (take (length p - (i + 1)) (drop (i + 1) p)) ≡ false = search rules in
     by c.any.result

@@ -1,4 +1,4 @@
--- `marks::stands_twice` meets its contract. Assumes nothing.
+-- `marks::stands_twice_by_marks` meets its contract. Assumes nothing.
 use Prim.Native.Nat.{suc}
 use mathlib.Core.Bool.{true}
 use mathlib.Core.Path.{sym, ap, ◌∙◌}
@@ -7,7 +7,7 @@ use lib.ListN.{get_or, set, take, drop, length-set}
 use lib.Seq.{take-suc, split_at}
 use Rattle.complex.specs.Builder.{repeats}
 use Rattle.marks.proofs.Marking.{mark-found, mark-missing, marked_next, stands-again, stands-once}
-use Rattle.marks.proofs.stands_twice.Goals as goal
+use Rattle.marks.proofs.stands_twice_by_marks.Goals as goal
 
 pub returns-then-mark : goal.returns-then-mark
 returns-then-mark c =
