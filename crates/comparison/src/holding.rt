@@ -1,4 +1,5 @@
-// Whether adjacency lists are those of a complex: for each key the rows in which it lies.
+// Whether adjacency lists are those of a complex: for each key the rows in which it lies. All is inlined, so that the loops of each of
+// the three calls have the widths of its keys and rows as constants.
 ghost use Rattle.std.specs.Prelude.{◌≡◌, ◌+◌, ◌<◌, length};
 ghost use Rattle.lists.specs.Lists.{within};
 ghost use Rattle.lists.specs.Lent.{rows_of};
@@ -10,6 +11,7 @@ use complex::{AdjacencyList, has};
 use lists::FlatRows;
 
 // Whether all vertices of a simplex are among those of `row`.
+#[inline(always)]
 fn lies_in(simplex: &[u32], row: &[u32]) -> bool
     ensures { result ≡ within simplex.now row.now }
 {
@@ -17,6 +19,7 @@ fn lies_in(simplex: &[u32], row: &[u32]) -> bool
 }
 
 // Whether the items ascend and are numbers of rows in which the key lies.
+#[inline(always)]
 fn items_lie(key: &[u32], rows: &FlatRows<'_>, items: &[u32]) -> bool
     ensures { result ≡ lying (rows_of rows.now) key.now 0 items.now }
 {
@@ -32,6 +35,7 @@ fn items_lie(key: &[u32], rows: &FlatRows<'_>, items: &[u32]) -> bool
 }
 
 // The same of part j of the items, which goes from start j up to start j + 1.
+#[inline(always)]
 #[tactic(auto, unfolding(crate::specs::CheckParts::part_lies))]
 fn part_lies(key: &[u32], rows: &FlatRows<'_>, adjacency: &AdjacencyList<'_>, j: usize) -> bool
     requires { j + 1 < length adjacency.now.starts.now }
@@ -44,6 +48,7 @@ fn part_lies(key: &[u32], rows: &FlatRows<'_>, adjacency: &AdjacencyList<'_>, j:
 
 // Whether an adjacency list begins with the numbers of the rows in which each key lies. `total` is how many these are: a part that
 // lies is no longer than it should be, so parts that have the total all together are whole.
+#[inline(always)]
 pub fn is_holding(
     keys: &FlatRows<'_>,
     rows: &FlatRows<'_>,
