@@ -5,6 +5,7 @@ pub mod Units
 pub mod Signs
 pub mod Values
 pub mod Magnitude
+pub mod Zeros
 pub mod Exact
 pub mod Integers
 pub mod Related

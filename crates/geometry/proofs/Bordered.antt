@@ -10,10 +10,10 @@ use Rattle.lists.specs.Lists.{combos, upto}
 use Rattle.floats.specs.Algebra.{doubles}
 use Rattle.floats.specs.Ops.{◌⊕◌, ◌⊗◌, zero, one}
 use Rattle.floats.proofs.Magnitude.{Mag}
+use Rattle.floats.proofs.Zeros.{zero-term}
 use Rattle.geometry.specs.Determinant.{table, at, skip, minor, sign, expand, det4, det5, cofactor}
 use Rattle.geometry.specs.CayleyMenger.{cm, cofactors}
 use Rattle.geometry.specs.Minors.{pick, minors, bordered, past_zero, all_small}
-use Rattle.geometry.proofs.Zeros.{zero-term}
 use Rattle.geometry.proofs.Small.{first-finite}
 
 -- the expansion along the row 0, 1, 1, 1, 1, with the determinant that the 0 multiplies
@@ -22,6 +22,7 @@ whole first d =
     let term : Float → ℕ → Float = λ sign k. sign ⊗ one ⊗ get_or d k nan in
     zero ⊕ one ⊗ zero ⊗ first ⊕ term doubles.minus_one 0 ⊕ term one 1 ⊕ term doubles.minus_one 2 ⊕ term one 3
 
+-- it is finite, so that its term changes nothing
 past-zero-is : (first : Float) (k : ℕ) (d : List Float) → Mag first k → past_zero doubles d ≡ whole first d
 unfolding past_zero whole mul of_bits
 past-zero-is first k d h =
@@ -53,10 +54,12 @@ module _ (s : List Float) (long : length s ≡ 10) (small : all_small s ≡ true
   abbrev first : ℕ → ℕ → Float
   first i j = det4 doubles (minor doubles 4 (minor doubles 5 (cm doubles s) i j) 0 0)
 
+  -- a cofactor that expands so is worked out past the 0
   cofactor-is : (i j : ℕ) → i < 6 → j < 6 → (d : List Float) → det5 doubles (minor doubles 5 (cm doubles s) i j) ≡ whole (first i j) d → sign doubles (i + j) ⊗ past_zero doubles d ≡ cofactor doubles (cm doubles s) i j
   unfolding cofactor
   cofactor-is i j hi hj d e = ap (λ (x : Float). sign doubles (i + j) ⊗ x) (past-zero-is (first i j) _ d (first-finite s long small i j hi hj) ∙ sym e)
 
+  -- and the fifteen are, each with its own rows and columns
   pub fifteen-is : let o = of_rows (cm doubles s) in fifteen (o 2 3 4 5) (o 1 3 4 5) (o 1 2 4 5) (o 1 2 3 5) (o 1 2 3 4) ≡ cofactors doubles s
   unfolding cofactors det5 expand sign minor table skip at cm whole minors pick combos upto
   fifteen-is =
@@ -77,5 +80,6 @@ module _ (s : List Float) (long : length s ≡ 10) (small : all_small s ≡ true
       (ap₂ ◌∷◌ (cofactor-is 5 5 (lit< tt) (lit< tt) _ refl)
       refl))))))))))))))
 
+  -- the same of lists that hold those minors
   pub fifteen-of : (m : List (List Float)) (a b c d e : List Float) → m ≡ cm doubles s → a ≡ of_rows m 2 3 4 5 → b ≡ of_rows m 1 3 4 5 → c ≡ of_rows m 1 2 4 5 → d ≡ of_rows m 1 2 3 5 → e ≡ of_rows m 1 2 3 4 → fifteen a b c d e ≡ cofactors doubles s
   fifteen-of m a b c d e h ha hb hc hd he = rw (ha, hb, hc, hd, he, h) fifteen-is

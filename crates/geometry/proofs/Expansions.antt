@@ -1,4 +1,4 @@
--- The minors of rows by those of the rows without the first: expansions along it, in a list's order. Assumes nothing.
+-- The minors of three and of four rows by those of the rows without the first: expansions along it, in a list's order. Assumes nothing.
 use Prim.Native.Nat.{ℕ, ◌+◌}
 use mathlib.Core.List.{List, [], ◌∷◌, ◌++◌, map}
 use mathlib.Core.Path.{◌≡◌, refl}

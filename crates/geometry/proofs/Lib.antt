@@ -3,7 +3,6 @@ pub mod Tables
 pub mod Maps
 pub mod Computed
 pub mod Related
-pub mod Zeros
 pub mod Small
 pub mod Bordered
 pub mod Expansions

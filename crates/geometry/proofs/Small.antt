@@ -30,6 +30,7 @@ small-mag nan h = absurd (true≢false (sym h))
 small-mag (inf s) h = absurd (true≢false (sym h))
 small-mag (fin s m e) h = le_trans (le_of_eq (sym (mul-one (m * up e)))) (le_trans (le_of_lt (ltb→lt _ _ (subst T (sym h) tt))) (mul-le-mul_right (down e) (lit≤ tt)))
 
+-- so is each of small ones
 small-at : (xs : List Float) → all_small xs ≡ true → (k : ℕ) → k < length xs → Mag (get_or xs k nan) 250
 unfolding all_small
 small-at [] h k l = absurd (omega arith)
@@ -84,6 +85,7 @@ all_finite = tt
 
 -- ---- the fact
 
+-- the determinant that the 0 of the border's row multiplies is finite
 pub first-finite : (s : List Float) → length s ≡ 10 → all_small s ≡ true → (row col : ℕ) → row < 6 → col < 6 → Mag (det4 doubles (minor doubles 4 (minor doubles 5 (cm doubles s) row col) 0 0)) (bound row col).k
 first-finite s long small row col r c =
     let fine : T (leb (bound row col).k 1023) = all-at (λ b. leb (bound row b).k 1023) 6 (all-at (λ a. all (λ b. leb (bound a b).k 1023) 6) 6 all_finite row r) col c in

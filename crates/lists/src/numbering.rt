@@ -25,7 +25,9 @@ pub fn same_row(list: &[u32], at: usize, row: &[u32]) -> bool
     requires { at + length row.now ≤ length list.now }
     ensures { result ≡ eqs row.now (take (length row.now) (drop at list.now)) }
 {
-    row.iter().zip(&list[at..at + row.len()]).all(|(a, b)| a == b)
+    row.iter()
+        .zip(&list[at..at + row.len()])
+        .all(|(a, b)| a == b)
 }
 
 // The number of `row`, which is in this chain, among the first n rows of its width; n where it is not there.

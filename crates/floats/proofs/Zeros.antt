@@ -12,6 +12,7 @@ use lib.Ieee.Nearest.{closest, closest_mono}
 use Rattle.floats.specs.Ops.{zero}
 use Rattle.floats.proofs.Magnitude.{Mag}
 
+-- 0 parts of u are nearest to 0
 closest-none : (u : ℕ) → 0 < u → closest 0 u ≤ 0
 closest-none u h = closest_mono 0 u 0 1 h (omega arith) (le_of_eq (mul-one 0 ∙ sym (zero-mul u)))
 
