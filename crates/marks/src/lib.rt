@@ -2,11 +2,11 @@
 #![tactic(auto)]
 
 ghost use Rattle.std.specs.Prelude.{◌≡◌, ℕ, List, [], ◌≤◌, length};
+ghost use Rattle.std.specs.List.{list_any};
 ghost use Rattle.lists.specs.Rows.{over};
 ghost use Rattle.lists.specs.Groups.{Below};
 ghost use Rattle.complex.specs.Builder.{repeats};
 ghost use Rattle.complex.specs.Lent.{pents_of, edges_of, triangles_of, IsHolding};
-ghost use Rattle.std.specs.List.{list_any};
 ghost use Rattle.marks.specs.Marks.{met, marked, marked_below, next_marked, IsMeeting};
 
 use complex::{AdjacencyList, Complex, repeats};

@@ -9,9 +9,9 @@ mod touched;
 ghost use Rattle.std.specs.Prelude.{◌≡◌, ◌≤◌, ◌<◌, length, set};
 ghost use Rattle.lists.specs.Writes.{writes};
 ghost use Rattle.complex.specs.Lent.{lists_of};
+ghost use Rattle.lorentzian.specs.Dihedral.{kind_number};
 ghost use Rattle.hinges.specs.Hinges.{faces_of};
 ghost use Rattle.calls.specs.Calls.{built_check_of, lengths_check_of, room_check_of, short_table};
-ghost use Rattle.lorentzian.specs.Dihedral.{kind_number};
 ghost use Rattle.retouch.specs.Retouch.{edge_check_of, anew, touched, Retouched};
 
 use calls::{BuiltComplex, check_complex, check_lengths, check_table};
