@@ -22,7 +22,7 @@ pub struct Kind {
     pub draw: fn(&mut Random, usize) -> Simplex,
 }
 
-pub const KINDS: [Kind; 16] = [
+pub const KINDS: [Kind; 17] = [
     Kind { name: "whole lengths up to 32,768", count: 14_000, draw: |random, _| whole(random) },
     Kind { name: "uniform", count: 8_000, draw: |random, _| uniform(random) },
     Kind { name: "points of Minkowski space", count: 14_000, draw: |random, _| minkowski(random) },
@@ -39,6 +39,7 @@ pub const KINDS: [Kind; 16] = [
     Kind { name: "huge", count: 4_000, draw: |random, _| of_size(random, Random::huge) },
     Kind { name: "bit patterns", count: 6_000, draw: |random, _| [(); 10].map(|()| random.bits()) },
     Kind { name: "mixed", count: 6_000, draw: |random, _| mixed(random) },
+    Kind { name: "near 1e75", count: 4_000, draw: |random, _| of_size(random, near_limit) },
 ];
 
 /// Whole lengths: any, small ones, many zeros, all of the largest size.
@@ -200,6 +201,14 @@ fn of_size(random: &mut Random, sort: fn(&mut Random) -> f64) -> Simplex {
         1 => [(); 10].map(|()| sort(random)),
         _ => [(); 10].map(|()| size * random.between(-1.0, 1.0)),
     }
+}
+
+/// A length of either sign near 1e75, the size up to which our cofactors share minors, or a power of two further off: larger ones overflow.
+fn near_limit(random: &mut Random) -> f64 {
+    if random.below(2) == 0 {
+        return random.spread(244, 262);
+    }
+    random.sign() * random.nudged(1e75, 2)
 }
 
 /// The sorts of a single number.
