@@ -10,10 +10,9 @@
  *   nothing changes it during the call.
  * - The floating-point environment is the one in which C starts: rounding to nearest, subnormals kept. A program that is linked with
  *   -ffast-math does not start in it.
- * - Stack: a call takes up to 1.85 MiB. from_pentachorons takes 1.69 MiB, check_built, edge_types, flat_minkowski_sq_lengths,
- *   lorentzian_deficit_angles and lorentzian_deficit_angle 1.06, foliated_hypercubic 0.31, lorentzian_regge_action and
- *   lorentzian_regge_action_grad 1.77, local_deficit_angles 1.22, local_lorentzian_regge_action_grad 1.85,
- *   local_lorentzian_regge_hessian 1.77, retouch 1.45, the others less than 8 KiB.
+ * - Stack: a call takes up to 1.69 MiB. from_pentachorons takes 1.69 MiB, local_lorentzian_regge_hessian 1.34,
+ *   lorentzian_regge_action, lorentzian_regge_action_grad and local_lorentzian_regge_action_grad 1.34, foliated_hypercubic 0.32, the
+ *   other calls over a complex 1.07, the others less than 9 KiB.
  *
  * What a call keeps
  * - It answers at every input, NaN and infinite lengths too, with the same bits each time, or it refuses. There is no state between

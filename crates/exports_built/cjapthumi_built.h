@@ -11,9 +11,9 @@
  * What a call keeps is as in cjapthumi.h, without refusal 7: the same answers with the same bits, the other refusals in the same order,
  * all with place 0; a refused call leaves every buffer as it was.
  *
- * Stack: a call takes up to 0.78 MiB. lorentzian_regge_action_built and lorentzian_regge_action_grad_built take 0.70 MiB,
- * local_deficit_angles_built 0.16, local_lorentzian_regge_action_grad_built 0.78, local_lorentzian_regge_hessian_built 0.71,
- * retouch_built 0.39, the other two less than 2 KiB.
+ * Stack: a call takes up to 0.72 MiB. local_lorentzian_regge_hessian_built takes 0.72 MiB, lorentzian_regge_action_built,
+ * lorentzian_regge_action_grad_built and local_lorentzian_regge_action_grad_built 0.71, retouch_built 0.40,
+ * local_deficit_angles_built 0.08, the other two less than 2 KiB.
  */
 #ifndef CJAPTHUMI_BUILT_H
 #define CJAPTHUMI_BUILT_H

@@ -50,14 +50,14 @@ pub fn too_large(n: usize, numbers: &[u32]) -> bool
     numbers.iter().any(|v| n <= *v as usize)
 }
 
-// Whether v is a vertex of `pent`. No `contains`: for five numbers its search by groups takes twice as long.
+// Whether v is among these numbers. No `contains`: it calls a search by groups, which takes longer for so few.
 pub fn has(v: u32, pent: &[u32]) -> bool
     ensures { result ≡ among v pent.now }
 {
     pent.iter().any(|vertex| *vertex == v)
 }
 
-// Whether some number stands twice, of few: pairs are compared.
+// Whether some number stands twice, by pairs: for few numbers.
 pub fn repeats(numbers: &[u32]) -> bool
     ensures { result ≡ repeats numbers.now }
 {

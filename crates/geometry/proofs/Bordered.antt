@@ -34,7 +34,7 @@ abbrev pub of_rows : List (List Float) → ℕ → ℕ → ℕ → ℕ → List 
 of_rows m i j k l = let row : ℕ → List Float = λ n. get_or m n [] in minors doubles (det4 doubles) (row i ∷ row j ∷ row k ∷ row l ∷ []) bordered
 
 -- a cofactor by the sign of its place and four minors of a list
-abbrev pub by_minors : Float → List Float → ℕ → ℕ → ℕ → ℕ → Float
+abbrev by_minors : Float → List Float → ℕ → ℕ → ℕ → ℕ → Float
 by_minors sign m i j k l = sign ⊗ past_zero doubles (get_or m i nan ∷ get_or m j nan ∷ get_or m k nan ∷ get_or m l nan ∷ [])
 
 -- the fifteen, by the minors of the rows but one: but 1, but 2, .. but 5
@@ -60,7 +60,7 @@ module _ (s : List Float) (long : length s ≡ 10) (small : all_small s ≡ true
   cofactor-is i j hi hj d e = ap (λ (x : Float). sign doubles (i + j) ⊗ x) (past-zero-is (first i j) _ d (first-finite s long small i j hi hj) ∙ sym e)
 
   -- and the fifteen are, each with its own rows and columns
-  pub fifteen-is : let o = of_rows (cm doubles s) in fifteen (o 2 3 4 5) (o 1 3 4 5) (o 1 2 4 5) (o 1 2 3 5) (o 1 2 3 4) ≡ cofactors doubles s
+  fifteen-is : let o = of_rows (cm doubles s) in fifteen (o 2 3 4 5) (o 1 3 4 5) (o 1 2 4 5) (o 1 2 3 5) (o 1 2 3 4) ≡ cofactors doubles s
   unfolding cofactors det5 expand sign minor table skip at cm whole minors pick combos upto
   fifteen-is =
       ap₂ ◌∷◌ (cofactor-is 1 1 (lit< tt) (lit< tt) _ refl)

@@ -1,4 +1,4 @@
--- Tests of all numbers below a bound, and ten equal bounds of lengths: what is computed of the bounds of cofactors. Assumes nothing.
+-- Ten lengths of one bound, and a test of all numbers below n: for what is computed of the bounds of cofactors. Assumes nothing.
 use Prim.Native.Nat.{ℕ, zero, suc, ◌≤◌, ◌<◌}
 use mathlib.Core.Path.{◌≡◌, sym, subst}
 use mathlib.Core.Bool.{Bool, true, ◌&&◌}
@@ -17,6 +17,7 @@ use Rattle.geometry.proofs.Tables.{get_or-table}
 unfoldable pub ten : Bound → List Bound
 ten β = table 10 (λ k. β)
 
+-- each is it
 pub ten-at : (β : Bound) (k : ℕ) → k < 10 → get_or (ten β) k bounds.out ≡ β
 unfolding ten
 ten-at β k l = get_or-table 10 (λ k. β) bounds.out k l
@@ -26,6 +27,7 @@ unfoldable pub all : (ℕ → Bool) → ℕ → Bool
 all p zero = true
 all p (suc n) = all p n && p n
 
+-- so it holds of each
 pub all-at : (p : ℕ → Bool) (n : ℕ) → T (all p n) → (k : ℕ) → k < n → T (p k)
 unfolding all
 all-at p zero h k l = absurd (omega arith)

@@ -105,6 +105,7 @@ module _ (A B C : Type 0) (o : Algebra A) (p : Algebra B) (q : Algebra C) (R : A
     unfolding at
     cm-entry i j = get_or_related A B C R o.out p.out q.out κ.out (get_or_related (List A) (List B) (List C) (Lists A B C R) [] [] [] none cm-rows i) j
 
+    -- the three matrices
     abbrev related-cm : M
     related-cm = record { x = cm o x; y = cm p y; w = cm q w; entry = cm-entry }
 

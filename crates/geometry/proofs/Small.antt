@@ -72,6 +72,7 @@ stays = record { out = out-stays; zero = zero-stays; one = one-stays; minus_one 
 
 -- ---- the bound of the determinants, computed
 
+-- a length of size at most 2 ^ 250
 abbrev length_bound : Bound
 length_bound = record { b = 0; k = 250 }
 
@@ -79,6 +80,7 @@ length_bound = record { b = 0; k = 250 }
 abbrev bound : ℕ → ℕ → Bound
 bound row col = det4 bounds (minor bounds 4 (minor bounds 5 (cm bounds (ten length_bound)) row col) 0 0)
 
+-- all are finite
 all_finite : T (all (λ i. all (λ j. leb (bound i j).k 1023) 6) 6)
 unfolding all ten table at skip minor sign det3 expand det4 cm
 all_finite = tt

@@ -12,10 +12,10 @@ use floats::abs;
 
 // ---- the guard
 
-// What a length is below in size: then no determinant of four rows of lengths overflows.
+// What a length is below in size. It is below 2^250, so that no determinant of four rows of lengths overflows.
 const SMALL: f64 = 1e75;
 
-// Whether all lengths are.
+// Whether all lengths are below it in size; NaN is not.
 pub fn all_small(s: &[f64; 10]) -> bool
     ensures { result ≡ all_small s.now }
 {
@@ -106,7 +106,8 @@ fn bordered_cofactor(sign: f64, d: [f64; 4]) -> f64
     sign * (0.0 + -1.0 * 1.0 * d[0] + 1.0 * 1.0 * d[1] + -1.0 * 1.0 * d[2] + 1.0 * 1.0 * d[3])
 }
 
-// The 15 cofactors of small lengths. What the 0 of the border's row multiplies is left out: it is finite, so that its term is 0.
+// The 15 cofactors of small lengths, by the minors of some of the rows 1 to 5 (`of_34`) and of all of them but one (`but_1`). What the 0
+// of the border's row multiplies is left out: it is finite, so that its term is 0.
 pub fn shared_cofactors(s: &[f64; 10]) -> [f64; 15]
     requires { all_small s.now ≡ true }
     ensures { result ≡ cofactors doubles s.now }

@@ -1,19 +1,18 @@
 -- The two terms of the local Hessian over all triangles and pentachorons on free edges, from lists of marks and sums in scratch. Assumes nothing.
 use Prim.Native.Nat.{ℕ, ◌+◌, ◌*◌, ◌≤◌, ◌<◌}
 use mathlib.Core.Bool.{Bool, false}
-use mathlib.Core.List.{List, ◌++◌, foldl}
+use mathlib.Core.List.{List, ◌++◌}
 use mathlib.Core.Path.{◌≡◌, refl, sym, ap, ◌∙◌}
 use native.Mathlib.Omega.{arith}
 use lib.Ieee.{Float, nan}
-use lib.ListN.{length, get_or, take, drop, replicate, length-replicate, get_or-replicate}
+use lib.ListN.{length, get_or, take, drop, replicate, length-replicate}
 use lib.Seq.{length-take-le}
 use Rattle.floats.specs.Ops.{◌⊕◌, zero}
 use Rattle.lists.specs.Lists.{gather, upto, Once}
 use Rattle.lists.specs.Rows.{over}
 use Rattle.lists.specs.Groups.{Below}
-use Rattle.lists.specs.Loops.{scatter, hits}
+use Rattle.lists.specs.Loops.{scatter}
 use Rattle.lists.proofs.Elements.{map_same, mem-upto, mem-get_or}
-use Rattle.lists.proofs.Loops.{scatter-at}
 use Rattle.complex.specs.declared.Complex.{Complex}
 use Rattle.complex.specs.declared.Incidence.{Incidence}
 use Rattle.marks.specs.Marks.{met, listed, marked, marked_below}
@@ -21,6 +20,7 @@ use Rattle.marks.proofs.Marking.{marked-listed}
 use Rattle.hinges.specs.Hinges.{FaceLists, faces_of}
 use Rattle.hinges.specs.Parts.{IsMeasured}
 use Rattle.hinges.specs.Local.{local_triangles, local_pents}
+use Rattle.hinges.proofs.LocalEntries.{sum-at}
 use Rattle.hinges.proofs.PentachoronSteps.{pents-wide}
 use Rattle.second_derivatives.specs.Parts.{before}
 use Rattle.hessian.specs.Hessian.{local_hessian}
@@ -39,19 +39,13 @@ unfolding over
 zeros-first n old front h e = rw (e, length-take-le n old h, length-replicate) refl
 
 module _ (events : List (ℕ × Float)) (free : List ℕ) where
-  -- a sum in scratch of m places
-  sum-at : (m e : ℕ) → e < m → get_or (scatter nan ◌⊕◌ events (replicate m zero)) e nan ≡ foldl ◌⊕◌ zero (hits e events)
-  sum-at m e h =
-      scatter-at nan ◌⊕◌ events (replicate m zero) e (omega (arith, length-replicate m zero))
-      ∙ ap (λ (x : Float). foldl ◌⊕◌ x (hits e events)) (get_or-replicate m e zero nan h)
-
   -- the sums of free edges are the same in scratch of m and of k places
   sums-alike : (m k : ℕ) → Below free m → Below free k → diagonal_events free (scatter nan ◌⊕◌ events (replicate m zero)) ≡ diagonal_events free (scatter nan ◌⊕◌ events (replicate k zero))
   unfolding diagonal_events
   sums-alike m k a b =
       map_same _ _ (upto (length free)) (λ i h.
       let l = mem-upto (length free) i h in
-      ap (λ (x : Float). (i * length free + i, x)) (sum-at m (get_or free i 0) (a i l) ∙ sym (sum-at k (get_or free i 0) (b i l))))
+      ap (λ (x : Float). (i * length free + i, x)) (sum-at events m (get_or free i 0) (a i l) ∙ sym (sum-at events k (get_or free i 0) (b i l))))
 
 -- the sums on the diagonal are those of the triangles on free edges, in scratch of m places
 pub sums-whole : (F : FaceLists) (ls : List Float) (free : List ℕ) (m : ℕ) → Below free m → Below free 81920 → (own : List ℕ) (sums₀ sums : List Float) → own ≡ local_triangles F free → sums₀ ≡ replicate m zero

@@ -56,8 +56,8 @@ fn add_pent<'a>(
     add_second(&at, &s, fd_eps, matrix);
 }
 
-// What all marked pentachorons add, in their order. `add_tris` goes over its marks by a loop of its own: one function for both would
-// take a closure that changes the matrix, and of triangles the diagonal too, with a law of what each of its calls leaves, for three lines.
+// What all marked pentachorons add, in their order. `add_tris` goes over its marks by a loop of its own: one function for both, or an
+// iterator over marks, would need a law of what a closure's calls leave in the matrix, and of triangles in the diagonal, for seven lines.
 fn add_pents<'a>(
     built: &Measured<'a>,
     free_edges: &'a [u32],
@@ -169,7 +169,7 @@ fn add_first_term_in<'a, const T: usize, const E: usize>(
     put_diagonal(free_edges, &diagonal, matrix);
 }
 
-// The same in as many marks and sums as the complex asks for: to clear all that there may be takes longer than several triangles.
+// The same in marks and sums of the smaller of two sizes where they suffice: to clear 81,920 of each takes as long as many hinges.
 fn add_first_term<'a>(built: &Measured<'a>, free_edges: &'a [u32], matrix: &mut SquareMatrix<'_>)
     requires { (IsHolding (triangles_of built.now.complex) (edges_of built.now.complex) built.now.complex.edge_to_tris)
         × Below free_edges.now built.now.complex.counts.edges × (built.now.complex.counts.edges ≤ 81920) × (matrix.old.n ≡ length free_edges.now) }

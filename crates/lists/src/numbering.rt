@@ -20,7 +20,8 @@ pub fn chain_of(row: &[u32]) -> usize
     h
 }
 
-// Whether the row that starts at `at` is `row`. No `==` of slices: its comparison by groups is a call for two or three numbers.
+// Whether the row that starts at `at` is `row`. No `==` of slices: it calls a comparison by groups, which takes longer for so
+// few numbers.
 pub fn same_row(list: &[u32], at: usize, row: &[u32]) -> bool
     requires { at + length row.now ≤ length list.now }
     ensures { result ≡ eqs row.now (take (length row.now) (drop at list.now)) }

@@ -74,7 +74,7 @@ fn tabulate_in<const T: usize>(
     Ok(count)
 }
 
-// The same by as many marks as the complex asks for: to clear all that there may be takes as long as several hinges.
+// The same by marks of the smaller of two sizes where it suffices: to clear 81,920 takes as long as several hinges.
 fn tabulate(
     built: &BuiltComplex<'_>,
     sq_lengths: &[f64],

@@ -75,8 +75,7 @@ fn write_gradient_in<const T: usize, const E: usize>(
     write_entries(free_edges, &entries, grad);
 }
 
-// Writes the entries of free edges. Most complexes have few triangles and edges: marks and sums for as many as there may be take longer
-// to be cleared than the triangles on an edge to be summed.
+// The same in marks and sums of the smaller of two sizes where they suffice: to clear 81,920 of each takes as long as many hinges.
 fn write_gradient(
     built: &BuiltComplex<'_>,
     sq_lengths: &[f64],

@@ -215,7 +215,7 @@ module _ (marks : List Bool) where
     next-stands = subst (AtMark marks) (sym e) (next-law (length marks - from) from (omega arith)).0
 
     -- and nothing is marked between
-    pub next-same : marked_below t marks ≡ marked_below from marks
+    next-same : marked_below t marks ≡ marked_below from marks
     next-same = ap (λ (k : ℕ). marked_below k marks) e ∙ (next-law (length marks - from) from (omega arith)).1
 
     -- a walk goes on

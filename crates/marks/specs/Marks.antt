@@ -1,4 +1,4 @@
--- Numbers listed by their marks: the faces in which edges lie, those of the first n numbers that are among some, and marks of them. Definitions only.
+-- Numbers listed by their marks: the faces in which edges lie, those of the first n numbers that are among some, marks of them, and the next mark from a number on. Definitions only.
 use Rattle.std.specs.Prelude.{ℕ, ◌+◌, ◌≤◌, Bool, true, false, cond, length, get_or, set, drop}
 use mathlib.Core.List.{List, [], ◌∷◌, foldl}
 use Rattle.lists.specs.Lists.{keep, gather, upto, among}

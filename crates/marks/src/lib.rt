@@ -117,7 +117,8 @@ pub fn list_marked(marks: &[bool], list: &mut [u32])
 
 // ---- numbers that stand twice
 
-// Whether some number stands twice, by marks: there may be as many numbers as marks. Not inlined, so that no marks are made for few.
+// Whether some number stands twice, by marks: there may be too many to compare by pairs. Not inlined, so that the marks lie on the stack
+// only where they are used.
 #[inline(never)]
 #[tactic(auto, unfolding(crate::specs::Marks::marked, complex::specs::Builder::repeats))]
 fn stands_twice_by_marks(numbers: &[u32]) -> bool

@@ -44,7 +44,7 @@ fn rework_in<const T: usize>(
     write_records(built, sq_lengths, &tris[..count], deficits, kinds);
 }
 
-// The same with as much room as the complex asks for: to clear all that there may be takes longer than several triangles.
+// The same with the smaller of two rooms where it suffices: to clear room for 81,920 takes as long as several hinges.
 fn rework(
     built: &BuiltComplex<'_>,
     sq_lengths: &mut [f64],

@@ -69,7 +69,7 @@ fn list_touched_in<'a, const T: usize>(
     count_marked(own)
 }
 
-// The same by as many marks as the complex asks for: to clear all that there may be takes longer than to mark a few.
+// The same by marks of the smaller of two sizes where it suffices: to clear 81,920 takes longer than to mark a few.
 pub fn list_touched<'a>(
     complex: &Complex<'a>,
     incidence: &Incidence<'a>,

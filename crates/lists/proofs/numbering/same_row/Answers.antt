@@ -2,13 +2,15 @@
 use mathlib.Core.Path.{◌≡◌, refl, sym, ap, ◌∙◌}
 use mathlib.Core.Bool.{Bool, true, false, ◌&&◌}
 use mathlib.Core.List.{List, [], ◌∷◌}
-use Prim.Native.Nat.{ℕ, zero, suc, ◌+◌, ◌-◌, ◌<◌}
+use Prim.Native.Nat.{ℕ, suc, ◌+◌, ◌-◌, ◌<◌}
 use native.Mathlib.Omega.{arith}
 use lib.Dec.{eqb}
 use lib.ListN.{length, get_or, take, drop, length-drop}
 use lib.Seq.{length-take-le}
 use Rattle.std.proofs.Common.{rules}
 use Rattle.lists.specs.Keys.{eqs}
+use Rattle.lists.proofs.Tests.{fails, denied, eqb-says}
+use Rattle.lists.proofs.Keys.{eqs-says}
 use Rattle.lists.proofs.numbering.same_row.Goals as goal
 
 -- rows of one length whose numbers are the same, place by place
@@ -20,21 +22,13 @@ eqs-all (x ∷ xs) [] h same = absurd (omega arith)
 eqs-all (x ∷ xs) (y ∷ ys) h same = ap (λ (b : Bool). b && eqs xs ys) (same 0 (omega arith)) ∙ eqs-all xs ys (omega arith) (λ i l. same (suc i) (omega arith))
 
 -- and two that differ at a place
-eqs-not : (x y : List ℕ) (i : ℕ) → i < length x → i < length y → eqb (get_or x i 0) (get_or y i 0) ≡ false → eqs x y ≡ false
-unfolding eqs
-eqs-not [] ys i h k differ = absurd (omega arith)
-eqs-not (x ∷ xs) [] i h k differ = refl
-eqs-not (x ∷ xs) (y ∷ ys) zero h k differ = ap (λ (b : Bool). b && eqs xs ys) differ
-eqs-not (x ∷ xs) (y ∷ ys) (suc i) h k differ = ap (λ (b : Bool). eqb x y && b) (eqs-not xs ys i (omega arith) (omega arith) differ) ∙ none (eqb x y)
-  where
-    none : (b : Bool) → (b && false) ≡ false
-    none true = refl
-    none false = refl
+eqs-not : (x y : List ℕ) (i : ℕ) → eqb (get_or x i 0) (get_or y i 0) ≡ false → eqs x y ≡ false
+eqs-not x y i differ = fails (eqs-says x y) (λ e. denied (eqb-says (get_or x i 0) (get_or y i 0)) differ (ap (λ (l : List ℕ). get_or l i 0) e))
 
 -- so a test of all places is the test of the rows
 eqs-is : (x y : List ℕ) → length x ≡ length y → (r : Bool) → (r ≡ true → (i : ℕ) → i < length x → eqb (get_or x i 0) (get_or y i 0) ≡ true) → (r ≡ false → (i : ℕ) × (i < length x) × (eqb (get_or x i 0) (get_or y i 0) ≡ false)) → r ≡ eqs x y
 eqs-is x y h true so not_so = sym (eqs-all x y h (so refl))
-eqs-is x y h false so not_so = let at = not_so refl in sym (eqs-not x y at.0 at.1 (omega (arith, at.1)) at.2)
+eqs-is x y h false so not_so = let at = not_so refl in sym (eqs-not x y at.0 at.2)
 
 pub returns : goal.returns
 returns c =
