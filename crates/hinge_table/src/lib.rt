@@ -83,9 +83,9 @@ fn write_records(built: &BuiltComplex<'_>, sq_lengths: &[f64], tris: &[u32], tab
     }
 }
 
-// The retouch of a built complex. The steps are those of `retouch_built` over two lists: only the check of room and what is stored
-// differ, and one function of both would need a trait for the two. Not inlined, so that its list does not lie on the stack while the
-// caller checks the complex.
+// The retouch of a built complex. The steps are those of `retouch_built` over two lists: only the check of room, what is stored and the
+// room for the triangles differ, of one size here, and one function of both would need a trait for the two. Not inlined, so that its
+// list does not lie on the stack while the caller checks the complex.
 #[inline(never)]
 fn retouch_of(
     built: &BuiltComplex<'_>,
