@@ -1,7 +1,9 @@
 /*
  * Calls the functions of both headers and checks their answers, their refusals and what they leave in the buffers that they are lent.
- * Calls over a complex are made twice: with the check of the complex, and as cores.
+ * Calls over a complex are made twice: with the check of the complex, and as cores. The stack of small calls is measured.
  */
+#define _POSIX_C_SOURCE 200809L
+#include <pthread.h>
 #include <stdio.h>
 #include <stdlib.h>
 #include <string.h>
@@ -112,6 +114,48 @@ static void clear(struct buffers *b)
         CHECK((call) == (number));                       \
         CHECK(memcmp(&before, (b), sizeof before) == 0); \
     } while (0)
+
+/* ---- how much stack a call takes ---- */
+
+/* The size of a thread's stack in bytes. */
+#define STACK 65536
+
+/* A call without parameters, for a thread. */
+static void *call_once(void *call)
+{
+    (*(void (**)(void))call)();
+    return NULL;
+}
+
+/* Makes no call. */
+static void no_call(void)
+{
+}
+
+/* How many bytes of a thread's stack a call writes to at its deepest, with what the thread itself takes. */
+static size_t stack_with(void (*call)(void))
+{
+    static unsigned char stack[STACK] __attribute__((aligned(4096)));
+    pthread_attr_t attributes;
+    pthread_t thread;
+    size_t kept = 0;
+    memset(stack, PATTERN, STACK);
+    CHECK(pthread_attr_init(&attributes) == 0);
+    CHECK(pthread_attr_setstack(&attributes, stack, STACK) == 0);
+    CHECK(pthread_create(&thread, &attributes, call_once, &call) == 0);
+    CHECK(pthread_join(thread, NULL) == 0);
+    pthread_attr_destroy(&attributes);
+    while (kept < STACK && stack[kept] == PATTERN)
+        kept++;
+    return STACK - kept;
+}
+
+/* How many bytes of stack a call takes; what is not 0 is more than what the thread takes beside it. */
+static size_t stack_of(void (*call)(void))
+{
+    size_t own = stack_with(no_call), all = stack_with(call);
+    return all > own ? all - own : 0;
+}
 
 /* ---- complexes ---- */
 
@@ -625,6 +669,53 @@ static void test_one_hinge(const struct complex *c)
     CHECK(signs[0] == 1 && signs[1] == 3 && signs[2] == 10);
 }
 
+/* ---- the stack that the headers speak of ---- */
+
+/* What the measured calls are given: ten squared lengths for one pentachoron, and P5's complex with its buffers. */
+static struct complex *measured;
+static struct buffers on_stack;
+static double ten[10], hundred[100];
+
+/* All deficits, by the core. */
+static void core_deficits(void)
+{
+    const struct complex *c = measured;
+    cjapthumi_lorentzian_deficit_angles_built(c->counts, TWELVE(c), on_stack.lengths, edges_of(c), on_stack.deficits, triangles_of(c),
+                                              on_stack.kinds, triangles_of(c));
+}
+
+/* One deficit, by the core. */
+static void core_deficit(void)
+{
+    const struct complex *c = measured;
+    cjapthumi_lorentzian_deficit_angle_built(c->counts, TWELVE(c), on_stack.lengths, edges_of(c), 0, &on_stack.deficit, &on_stack.kind);
+}
+
+/* The Jacobian of one pentachoron, which takes the most of the calls over one. */
+static void one_jacobian(void)
+{
+    cjapthumi_all_lorentzian_dihedrals_jacobian(ten, 1e-6, hundred);
+}
+
+/* Two cores take less than 2 KiB and the Jacobian less than 8, at lengths of all sizes and at NaN. */
+static void test_stack(struct complex *c)
+{
+    static const double sizes[4] = {1.0, 1e74, 1e80, 0.0};
+    measured = c;
+    for (int k = 0; k < 5; k++) {
+        double factor = k < 4 ? sizes[k] : of_bits(UINT64_C(0x7ff8000000000000));
+        clear(&on_stack);
+        for (size_t e = 0; e < edges_of(c); e++)
+            on_stack.lengths[e] = factor * SIGNED[e];
+        for (int e = 0; e < 10; e++)
+            ten[e] = factor * MIXED[e];
+        CHECK(stack_of(core_deficits) > 0);
+        CHECK(stack_of(core_deficits) < 2048);
+        CHECK(stack_of(core_deficit) < 2048);
+        CHECK(stack_of(one_jacobian) < 8192);
+    }
+}
+
 /* ---- free edges ---- */
 
 static const uint32_t FREE[3] = {13, 0, 7};
@@ -813,6 +904,7 @@ int main(void)
         test_refusals(&c);
     }
     c.core = 0;
+    test_stack(&c);
     test_not_built(&c);
     test_same_bits(&c);
     release(&c);

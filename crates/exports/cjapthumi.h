@@ -1,7 +1,7 @@
 /*
  * The library's functions for C: floats, the geometry of one pentachoron, complexes, lattices, hinges, action, gradient, Hessian and
  * retouch. Link target/staticlib/libexports.a, which `bindings/build` proves and builds for x86-64 Linux; it needs nothing but
- * memcpy, memmove and memset.
+ * memcpy and memset.
  *
  * What a caller keeps
  * - A list is a pointer and then its length, in elements. No pointer is null, not even one with length 0; each is aligned for its type
@@ -12,7 +12,7 @@
  *   -ffast-math does not start in it.
  * - Stack: a call takes up to 1.69 MiB. from_pentachorons takes 1.69 MiB, local_lorentzian_regge_hessian 1.34,
  *   lorentzian_regge_action, lorentzian_regge_action_grad and local_lorentzian_regge_action_grad 1.34, foliated_hypercubic 0.32, the
- *   other calls over a complex 1.07, the others less than 9 KiB.
+ *   other calls over a complex 1.07, the others less than 8 KiB.
  *
  * What a call keeps
  * - It answers at every input, NaN and infinite lengths too, with the same bits each time, or it refuses. There is no state between

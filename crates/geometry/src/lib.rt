@@ -137,6 +137,7 @@ pub fn cm_matrix_signed(s: &[f64; 10]) -> [[f64; 6]; 6]
 }
 
 // The 15 cofactors one by one, in the order of `cm_cofactors`.
+#[inline(never)]
 fn plain_cofactors(s: &[f64; 10]) -> [f64; 15]
     ensures { result ≡ cofactors doubles s.now }
 {

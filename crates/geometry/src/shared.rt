@@ -1,6 +1,6 @@
 // The fifteen cofactors, each minor that several of them share worked out once: straight-line code. A minor stands in its list by its
 // columns, in the order of `pairs`, `triples` and `bordered`; the compiler drops those that nothing reads.
-ghost use Rattle.std.specs.Prelude.{◌≡◌, true, List, [], ◌∷◌, Float};
+ghost use Rattle.std.specs.Prelude.{◌≡◌, true, List, [], ◌∷◌, Float, drop};
 ghost use Rattle.floats.specs.Algebra.{doubles};
 ghost use Rattle.floats.specs.Ops.{◌⊗◌};
 ghost use Rattle.geometry.specs.Determinant.{det3, det4};
@@ -106,25 +106,42 @@ fn bordered_cofactor(sign: f64, d: [f64; 4]) -> f64
     sign * (0.0 + -1.0 * 1.0 * d[0] + 1.0 * 1.0 * d[1] + -1.0 * 1.0 * d[2] + 1.0 * 1.0 * d[3])
 }
 
-// The 15 cofactors of small lengths, by the minors of some of the rows 1 to 5 (`of_34`) and of all of them but one (`but_1`). What the 0
-// of the border's row multiplies is left out: it is finite, so that its term is 0.
-pub fn shared_cofactors(s: &[f64; 10]) -> [f64; 15]
+// The last three of the 15 cofactors of small lengths, those of the rows and columns 4 and 5, by the minors of some of the rows 1 to 5
+// (`of_34`) and of all of them but one (`but_4`). They share no minor with the others. What the 0 of the border's row multiplies is left
+// out: it is finite, so that its term is 0. Not inlined: where one function has all fifteen, many more minors lie on the stack at once.
+#[inline(never)]
+fn last_three(s: &[f64; 10]) -> [f64; 3]
     requires { all_small s.now ≡ true }
-    ensures { result ≡ cofactors doubles s.now }
+    ensures { result ≡ drop 12 (cofactors doubles s.now) }
 {
     let m = cm_matrix_signed(s);
     let of_34 = minors_2x2(&m[3], &m[4]);
     let of_35 = minors_2x2(&m[3], &m[5]);
-    let of_45 = minors_2x2(&m[4], &m[5]);
     let of_234 = minors_3x3(&m[2], &of_34);
     let of_235 = minors_3x3(&m[2], &of_35);
+    let but_4 = minors_4x4(&m[1], &of_235);
+    let but_5 = minors_4x4(&m[1], &of_234);
+    [
+        bordered_cofactor(1.0, [but_4[7], but_4[4], but_4[2], but_4[0]]),
+        bordered_cofactor(-1.0, [but_4[6], but_4[3], but_4[1], but_4[0]]),
+        bordered_cofactor(1.0, [but_5[6], but_5[3], but_5[1], but_5[0]]),
+    ]
+}
+
+// The 15 cofactors of small lengths, the last three of which are given; the others as those.
+#[inline(never)]
+fn first_twelve(s: &[f64; 10], last: [f64; 3]) -> [f64; 15]
+    requires small { all_small s.now ≡ true }
+    requires rest { last ≡ drop 12 (cofactors doubles s.now) }
+    ensures { result ≡ cofactors doubles s.now }
+{
+    let m = cm_matrix_signed(s);
+    let of_45 = minors_2x2(&m[4], &m[5]);
     let of_245 = minors_3x3(&m[2], &of_45);
     let of_345 = minors_3x3(&m[3], &of_45);
     let but_1 = minors_4x4(&m[2], &of_345);
     let but_2 = minors_4x4(&m[1], &of_345);
     let but_3 = minors_4x4(&m[1], &of_245);
-    let but_4 = minors_4x4(&m[1], &of_235);
-    let but_5 = minors_4x4(&m[1], &of_234);
     [
         bordered_cofactor(1.0, [but_1[9], but_1[8], but_1[7], but_1[6]]),
         bordered_cofactor(-1.0, [but_1[9], but_1[5], but_1[4], but_1[3]]),
@@ -138,8 +155,16 @@ pub fn shared_cofactors(s: &[f64; 10]) -> [f64; 15]
         bordered_cofactor(1.0, [but_3[8], but_3[5], but_3[2], but_3[1]]),
         bordered_cofactor(-1.0, [but_3[7], but_3[4], but_3[2], but_3[0]]),
         bordered_cofactor(1.0, [but_3[6], but_3[3], but_3[1], but_3[0]]),
-        bordered_cofactor(1.0, [but_4[7], but_4[4], but_4[2], but_4[0]]),
-        bordered_cofactor(-1.0, [but_4[6], but_4[3], but_4[1], but_4[0]]),
-        bordered_cofactor(1.0, [but_5[6], but_5[3], but_5[1], but_5[0]]),
+        last[0],
+        last[1],
+        last[2],
     ]
+}
+
+// The 15 cofactors of small lengths.
+pub fn shared_cofactors(s: &[f64; 10]) -> [f64; 15]
+    requires { all_small s.now ≡ true }
+    ensures { result ≡ cofactors doubles s.now }
+{
+    first_twelve(s, last_three(s))
 }

@@ -22,9 +22,9 @@ use lorentzian::HingeType;
 use refusals::number_in;
 use replay::{Bits, Doubles, Line, fill_pattern, print_lines_of, print_row};
 use replay_lists::{Change, Lists};
+use std::fmt;
 use std::fmt::Display;
 use std::io::Result;
-use std::{array, fmt};
 
 // ---- reading
 
@@ -96,6 +96,20 @@ fn vertex(packed: u64, place: usize) -> u32
     requires { place < 5 }
 {
     (packed >> (48 - 12 * place) & 0xfff) as u32
+}
+
+// The vertices of a line's pentachorons. Each number is read once: a line of few has few to read.
+fn given_of(line: Line<'_>, pents: usize) -> [u32; 40]
+    requires { pents ≤ 8 }
+{
+    let mut given = [0; 40];
+    for i in 0..pents {
+        let packed = line.number(10 + i);
+        for place in 0..5 {
+            given[5 * i + place] = vertex(packed, place);
+        }
+    }
+    given
 }
 
 // ---- printing
@@ -260,40 +274,44 @@ impl Given<'_, '_> {
 
 // ---- complexes
 
-// All answers to a line, if its complex is built.
+// All answers to a line whose complex is built.
+fn print_line_answers(
+    rt: &impl Print,
+    line: Line<'_>,
+    settings: Settings,
+    complex: Complex<'_>,
+) -> Result<()> {
+    let after_pents = 10 + settings.pents;
+    let mut sq_lengths = [0.0; 80];
+    let sq_lengths = &mut sq_lengths[..settings.lengths];
+    line.read(after_pents, sq_lengths);
+    let mut free_edges = [0; 12];
+    let free_edges = &mut free_edges[..settings.frees];
+    line.read(after_pents + settings.lengths, free_edges);
+    let given = Given {
+        settings,
+        complex,
+        sq_lengths,
+        free_edges,
+    };
+    given.print_answers(rt)
+}
+
+// All answers to a line, if its complex is built. Lengths and free edges are read only then.
 fn print_built(rt: &impl Print, line: Line<'_>, settings: Settings) -> Result<()> {
-    let Settings {
-        pents,
-        lengths,
-        frees,
-        change,
-        ..
-    } = settings;
-    let given: [u32; 40] = array::from_fn(|i| vertex(line.number(10 + i / 5), i % 5));
+    let given = given_of(line, settings.pents);
     // The longest room that 8 pentachorons ask for.
     let mut lists = Lists::<240>::zeros();
     let built = builder::from_pentachorons(
         settings.vertices,
-        &given[..5 * pents],
+        &given[..5 * settings.pents],
         &mut lists.lend_mut(),
     );
-    change.make(&mut lists);
-    let mut sq_lengths = [0.0; 80];
-    let sq_lengths = &mut sq_lengths[..lengths];
-    line.read(10 + pents, sq_lengths);
-    let mut free_edges = [0; 12];
-    let free_edges = &mut free_edges[..frees];
-    line.read(10 + pents + lengths, free_edges);
+    settings.change.make(&mut lists);
     match built {
         Ok(counts) => {
-            let complex = lists.lend(change.counts(counts));
-            let given = Given {
-                settings,
-                complex,
-                sq_lengths,
-                free_edges,
-            };
-            given.print_answers(rt)
+            let complex = lists.lend(settings.change.counts(counts));
+            print_line_answers(rt, line, settings, complex)
         }
         Err(_) => Ok(()),
     }

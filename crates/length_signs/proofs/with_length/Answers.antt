@@ -12,6 +12,6 @@ pub returns-then-s-2 : goal.returns-then-s-2
 unfolding with_length
 returns-then-s-2 c = rw (c.if-s.false, c.if-s-2.true) refl
 
-pub returns-else-s-2 : goal.returns-else-s-2
+pub returns : goal.returns
 unfolding with_length
-returns-else-s-2 c = rw (c.if-s.false, c.if-s-2.false) refl
+returns c = rw (c.if-s.false, c.if-s-2.false) refl
