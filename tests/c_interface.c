@@ -150,12 +150,15 @@ static size_t stack_with(void (*call)(void))
     return STACK - kept;
 }
 
-/* How many bytes of stack a call takes; what is not 0 is more than what the thread takes beside it. */
+/* How many bytes of stack a call takes beside what the thread and its first function take, with the words by which C passes lists. */
 static size_t stack_of(void (*call)(void))
 {
     size_t own = stack_with(no_call), all = stack_with(call);
     return all > own ? all - own : 0;
 }
+
+/* What is passed on the stack takes at most so many bytes: the headers speak of what a call takes below it. */
+#define PASSED 256
 
 /* ---- complexes ---- */
 
@@ -709,9 +712,9 @@ static void test_stack(struct complex *c)
             on_stack.lengths[e] = factor * SIGNED[e];
         for (int e = 0; e < 10; e++)
             ten[e] = factor * MIXED[e];
-        CHECK(stack_of(core_deficits) > 0);
-        CHECK(stack_of(core_deficits) < 2048);
-        CHECK(stack_of(core_deficit) < 2048);
+        CHECK(stack_of(core_deficits) > PASSED);
+        CHECK(stack_of(core_deficits) < 2048 + PASSED);
+        CHECK(stack_of(core_deficit) < 2048 + PASSED);
         CHECK(stack_of(one_jacobian) < 8192);
     }
 }

@@ -136,7 +136,8 @@ pub fn cm_matrix_signed(s: &[f64; 10]) -> [[f64; 6]; 6]
     ]
 }
 
-// The 15 cofactors one by one, in the order of `cm_cofactors`.
+// The 15 cofactors one by one, in the order of `cm_cofactors`. Not inlined, so that a caller has the stack of these or of the shared, and
+// not of both.
 #[inline(never)]
 fn plain_cofactors(s: &[f64; 10]) -> [f64; 15]
     ensures { result ≡ cofactors doubles s.now }

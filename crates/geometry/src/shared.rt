@@ -128,9 +128,9 @@ fn last_three(s: &[f64; 10]) -> [f64; 3]
     ]
 }
 
-// The 15 cofactors of small lengths, the last three of which are given; the others as those.
+// The 15 cofactors of small lengths, the last three of which are given; the first twelve by minors as those.
 #[inline(never)]
-fn first_twelve(s: &[f64; 10], last: [f64; 3]) -> [f64; 15]
+fn all_fifteen(s: &[f64; 10], last: [f64; 3]) -> [f64; 15]
     requires small { all_small s.now ≡ true }
     requires rest { last ≡ drop 12 (cofactors doubles s.now) }
     ensures { result ≡ cofactors doubles s.now }
@@ -166,5 +166,5 @@ pub fn shared_cofactors(s: &[f64; 10]) -> [f64; 15]
     requires { all_small s.now ≡ true }
     ensures { result ≡ cofactors doubles s.now }
 {
-    first_twelve(s, last_three(s))
+    all_fifteen(s, last_three(s))
 }

@@ -56,18 +56,18 @@ impl Settings<'_> {
     // The ten lists before the call, of the lengths that the line says.
     fn lists(&self) -> Lists<1000> {
         let line = self.line;
-        Lists {
-            pents: LentList::patterned(line.size(2)),
-            edges: LentList::patterned(line.size(3)),
-            triangles: LentList::patterned(line.size(4)),
-            tets: LentList::patterned(line.size(5)),
-            tri_to_pents_items: LentList::patterned(line.size(6)),
-            tri_to_pents_starts: LentList::patterned(line.size(7)),
-            edge_to_tris_items: LentList::patterned(line.size(8)),
-            edge_to_tris_starts: LentList::patterned(line.size(9)),
-            edge_to_pents_items: LentList::patterned(line.size(10)),
-            edge_to_pents_starts: LentList::patterned(line.size(11)),
-        }
+        let mut lists = Lists::zeros();
+        lists.pents.pattern(line.size(2));
+        lists.edges.pattern(line.size(3));
+        lists.triangles.pattern(line.size(4));
+        lists.tets.pattern(line.size(5));
+        lists.tri_to_pents_items.pattern(line.size(6));
+        lists.tri_to_pents_starts.pattern(line.size(7));
+        lists.edge_to_tris_items.pattern(line.size(8));
+        lists.edge_to_tris_starts.pattern(line.size(9));
+        lists.edge_to_pents_items.pattern(line.size(10));
+        lists.edge_to_pents_starts.pattern(line.size(11));
+        lists
     }
 }
 

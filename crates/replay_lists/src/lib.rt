@@ -53,9 +53,18 @@ impl<const N: usize> LentList<N> {
         ensures lent { lent result ≡ map (λ i. word_of (pattern_at i)) (upto (length (lent result))) }
     {
         let mut list = LentList::zeros(room);
-        let n = room.min(N);
-        fill_first(&mut list.numbers, n);
+        list.pattern(room);
         list
+    }
+
+    // Gives the list a room, and its lent places the pattern that they have before a call: where the list lies, with no copy of it.
+    pub fn pattern(&mut self, room: usize)
+        ensures room { self.new.room ≡ room }
+        ensures lent { lent self.new ≡ map (λ i. word_of (pattern_at i)) (upto (length (lent self.new))) }
+    {
+        self.room = room;
+        let n = room.min(N);
+        fill_first(&mut self.numbers, n);
     }
 
     // What is lent of it.

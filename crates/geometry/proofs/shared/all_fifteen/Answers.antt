@@ -1,4 +1,4 @@
--- `geometry::shared::first_twelve` meets its contract. Assumes nothing.
+-- `geometry::shared::all_fifteen` meets its contract. Assumes nothing.
 use Prim.Native.Nat.{ℕ}
 use mathlib.Core.List.{List, [], ◌∷◌}
 use mathlib.Core.Path.{◌≡◌, refl, sym, ap, ap₂, ◌∙◌}
@@ -6,7 +6,7 @@ use native.Mathlib.Omega.{arith}
 use lib.Ieee.{Float, nan}
 use lib.ListN.{get_or, drop}
 use Rattle.geometry.proofs.Bordered.{of_rows, fifteen-of}
-use Rattle.geometry.proofs.shared.first_twelve.Goals as goal
+use Rattle.geometry.proofs.shared.all_fifteen.Goals as goal
 
 pub returns : goal.returns
 returns c =
